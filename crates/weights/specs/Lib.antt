@@ -1,0 +1,11 @@
+pub mod Algebra
+pub mod Capped
+pub mod Sums
+pub mod SumLaws
+pub mod Widths
+pub mod WidthLaws
+pub mod ColourSets
+pub mod BitLaws
+pub mod ColourLaws
+pub mod Pairs
+pub mod PairLaws
