@@ -1,0 +1,16 @@
+// Carriers: the links of one carrier's network, and the refusals that every call and reader answers with.
+
+mod refusals;
+
+pub use refusals::Refusal;
+pub use refusals::RefusalDisplay;
+
+// Where a link leads: to a node of its own carrier, or to a node of the next carrier towards the destination.
+#[derive(Clone, Copy, PartialEq, Eq, Debug)]
+pub enum Side {
+    Inside,
+    Onward,
+}
+
+#[cfg(test)]
+mod tests;
