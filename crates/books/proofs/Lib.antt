@@ -1,3 +1,4 @@
 pub mod Every
 pub mod Verdicts
 pub mod Walks
+pub mod Sides

@@ -8,6 +8,7 @@ ghost use Rattle.std.specs.Vec.{made};
 ghost use Rattle.books.specs.BookLayout.{node-count, link-count, entry-count, entry-of, link-of, entry-sound, link-sound, link-at, every, own, book-size, shape-fault, book-fault};
 ghost use Rattle.books.specs.ChainLayout.{lone-book};
 ghost use Rattle.books.specs.Faults.{judged};
+ghost use Rattle.books.specs.Sides.{leads-to, links-on};
 ghost use Rattle.books.specs.Told.{told-book, bytes-of};
 use crate::numbers::byte_at;
 use crate::numbers::u16_at;
@@ -20,6 +21,32 @@ use carriers::Side;
 #[derive(Clone, Copy)]
 pub struct Book<'a> {
     bytes: &'a [u8],
+}
+
+fn leads_to(link: Option<Link>, side: Side) -> bool
+    ensures { λ r. ⌜ r ≡ leads-to side link ⌝ }
+{
+    match (link, side) {
+        (
+            Some(
+                Link {
+                    side: Side::Inside,
+                    ..
+                },
+            ),
+            Side::Inside,
+        ) => true,
+        (
+            Some(
+                Link {
+                    side: Side::Onward,
+                    ..
+                },
+            ),
+            Side::Onward,
+        ) => true,
+        _ => false,
+    }
 }
 
 // The size of the book at the front of `bytes`, by its counts.
@@ -169,6 +196,19 @@ impl<'a> Book<'a> {
             }
         }
         None
+    }
+
+    // How many of its links lead to that side.
+    pub fn links_on(&self, side: Side) -> usize
+        ensures { λ r. ⌜ r ≡ links-on side (now (now (self .entry) .bytes)) (link-count (now (now (self .entry) .bytes))) ⌝ }
+    {
+        let mut count = 0;
+        for place in 0..self.link_count() as usize {
+            if leads_to(self.link(place), side) {
+                count += 1;
+            }
+        }
+        count
     }
 
     // Whether the record that begins at `start` keeps the rules of its fields.
