@@ -47,3 +47,6 @@ pub impl fmt::Display for Account<'_> as AccountDisplay {
         }
     }
 }
+
+#[cfg(test)]
+mod tests;

@@ -10,3 +10,6 @@ pub use bounds::Bounds;
 pub use chain_file::Chain;
 pub use layout::Book;
 pub use records::Link;
+
+#[cfg(test)]
+mod tests;
