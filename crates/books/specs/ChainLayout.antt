@@ -2,15 +2,19 @@
 --   books-fault n bs   why bs is not n books and no more, if it is not
 --   books-in n bs      the bytes of each of the n books that bs begins with
 --   chain-of bs        what the chain file bs says, or its first refusal
-use mathlib.Core.Bool.{cond, not, _||_}
-use mathlib.Core.List.{List, [], _∷_}
+use mathlib.Core.Bool.{true, cond, not, _||_}
+use mathlib.Core.List.{List, [], _∷_, _++_}
+use mathlib.Core.Path.{_≡_}
 use Prim.Native.Nat.{ℕ, zero, suc, min}
 use lib.Chars.{codes}
 use lib.Dec.{eqb, ltb}
 use lib.ListN.{length, take, drop}
 use Rattle.std.specs.declared.option.Option.{Option}
+use Rattle.std.specs.declared.option.Option.the-variants.{Some}
 use Rattle.std.specs.declared.result.Result.{Result}
 use Rattle.std.specs.declared.result.Result.the-variants.{Ok, Err}
+use Rattle.std.specs.shelf.Lists.{joined}
+use Rattle.std.specs.shelf.Maps.{nth}
 use Rattle.std.specs.shelf.Text.{sameBytes}
 use Rattle.weights.specs.Sums.{top}
 use Rattle.weights.specs.declared.colour_sets.Colours.{Colours}
@@ -25,7 +29,7 @@ use Rattle.books.specs.declared.bounds.Bounds.{Bounds}
 use Rattle.books.specs.declared.bounds.Bounds.the-variants.{Delay, DelayFee, All}
 use Rattle.books.specs.Bytes.{byte-at, u16-at, u32-at}
 use Rattle.books.specs.Faults.{rule, first-fault, otherwise, judged}
-use Rattle.books.specs.BookLayout.{own, book-size, book-fault}
+use Rattle.books.specs.BookLayout.{own, book-size, book-fault, fields-sound}
 
 abbrev pub header-fault : List ℕ → Option Refusal
 header-fault bs =
@@ -82,6 +86,11 @@ contents bs =
       source = u16-at bs 9;
       books = books-in (byte-at bs 6) (drop 27 bs);
     }
+
+-- nothing is lost: the file is its header and then its books, and every entry and every link of a book is there
+pub record Complete (bs : List ℕ) (c : Contents) : Type 0 where
+  pub whole : bs ≡ take 27 bs ++ joined (λ b. b) (c .books)
+  pub present : (i : ℕ) (b : List ℕ) → nth (c .books) i ≡ Some b → fields-sound b ≡ true
 
 abbrev pub chain-of : List ℕ → Result Contents Refusal
 chain-of bs = judged (otherwise (header-fault bs) (books-fault (byte-at bs 6) (drop 27 bs))) (contents bs)

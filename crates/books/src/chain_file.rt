@@ -7,7 +7,7 @@ ghost use Rattle.std.specs.Options.{mapped};
 ghost use Rattle.std.specs.Vec.{made};
 ghost use Rattle.std.specs.shelf.Maps.{nth};
 ghost use Rattle.books.specs.Bytes.{byte-at};
-ghost use Rattle.books.specs.ChainLayout.{header-fault, bounds-of, books-fault, chain-of};
+ghost use Rattle.books.specs.ChainLayout.{header-fault, bounds-of, books-fault, chain-of, Complete};
 ghost use Rattle.books.specs.Faults.{judged};
 ghost use Rattle.books.specs.Told.{told-chain, contents-of, bytes-of};
 use crate::bounds::Bounds;
@@ -35,7 +35,8 @@ pub struct Chain<'a> {
 impl<'a> Chain<'a> {
     // The chain that the file `bytes` describes, or the first refusal from left to right.
     pub fn read(bytes: &'a [u8]) -> Result<Chain<'a>, Refusal>
-        ensures { λ r. ⌜ told-chain r ≡ chain-of (now (bytes .entry)) ⌝ }
+        ensures answer { λ r. ⌜ told-chain r ≡ chain-of (now (bytes .entry)) ⌝ }
+        ensures complete { λ r. ⌜ made r (λ c. Complete (now (bytes .entry)) (contents-of c)) ⌝ }
     {
         let carriers = checked_carriers(bytes)?;
         let books = &bytes[27..];
@@ -79,7 +80,7 @@ impl<'a> Chain<'a> {
     pub fn book(&self, position: usize) -> Option<Book<'a>>
         ensures { λ r. ⌜ mapped bytes-of r ≡ nth (contents-of (now (self .entry)) .books) position ⌝ }
     {
-        if position >= self.carriers as usize {
+        if position >= self.carrier_count() {
             return None;
         }
         let mut rest = self.books;

@@ -16,6 +16,7 @@ use crate::numbers::u32_at;
 use crate::records::Link;
 use carriers::Refusal;
 use carriers::Side;
+use carriers::SidePartialEq;
 
 // The bytes of one book.
 #[derive(Clone, Copy)]
@@ -26,26 +27,9 @@ pub struct Book<'a> {
 fn leads_to(link: Option<Link>, side: Side) -> bool
     ensures { λ r. ⌜ r ≡ leads-to side link ⌝ }
 {
-    match (link, side) {
-        (
-            Some(
-                Link {
-                    side: Side::Inside,
-                    ..
-                },
-            ),
-            Side::Inside,
-        ) => true,
-        (
-            Some(
-                Link {
-                    side: Side::Onward,
-                    ..
-                },
-            ),
-            Side::Onward,
-        ) => true,
-        _ => false,
+    match link {
+        Some(link) => link.side == side,
+        None => false,
     }
 }
 
