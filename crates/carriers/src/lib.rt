@@ -1,7 +1,9 @@
-// Carriers: the links of one carrier's network, and the refusals that every call and reader answers with.
+// Carriers: what is known of one carrier's network, and the refusals that every call and reader answers with.
 
+mod maps;
 mod refusals;
 
+pub use maps::Map;
 pub use refusals::Refusal;
 pub use refusals::RefusalDebug;
 pub use refusals::RefusalDisplay;

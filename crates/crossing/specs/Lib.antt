@@ -1,0 +1,4 @@
+pub mod Offers
+pub mod Scopes
+pub mod Crossed
+pub mod Settling

@@ -1,0 +1,9 @@
+pub mod Labels
+pub mod View
+pub mod Candidates
+pub mod Crossing
+pub mod Ways
+pub mod Choice
+pub mod Domain
+pub mod Number
+pub mod Room
