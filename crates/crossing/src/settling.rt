@@ -72,9 +72,10 @@ fn settle_from<W: Kind, M: Map<W>>(
     ensures run { λ r. ⌜ Cases r (settling (W·Kind .algebra) (W·Kind .means) (now (scope .entry)) (M·Map .carrier (now (map .entry))) (now (memory .entry)) begun ≡ full) (λ end. (settling (W·Kind .algebra) (W·Kind .means) (now (scope .entry)) (M·Map .carrier (now (map .entry))) (now (memory .entry)) begun ≡ done (meanings (W·Kind .means) (between (now (scope .entry) .used) end (now (memory .exit))))) × (begun ≤ end) × (end ≤ length (now (memory .entry))) × (drop end (now (memory .exit)) ≡ drop end (now (memory .entry)))) ⌝ }
     ensures same { λ _. ⌜ take (now (scope .entry) .used) (now (memory .exit)) ≡ take (now (scope .entry) .used) (now (memory .entry)) ⌝ }
 {
+    let room = memory.len();
     let mut end = begun;
     while let Some(label) = next_label(scope, map, memory, end) {
-        if end >= memory.len() {
+        if end >= room {
             return None;
         }
         memory[end] = label;

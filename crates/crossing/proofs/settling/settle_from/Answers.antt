@@ -20,18 +20,18 @@ loop-label-again g c =
       omega arith,
       take-set-le (scope .used) m end (c .in-Some .label) low ∙ inv .2,
       drop-set-lt (end + 1) m end (c .in-Some .label) (omega arith) ∙ drop-after m (now (c .args .memory)) end (inv .3),
-      inv .4 ∙ settling-more (k .algebra) (k .means) scope carrier m end (c .in-Some .label) (c .in-Some .ensures tt) low (c .if-end-memory .left),
+      inv .4 ∙ settling-more (k .algebra) (k .means) scope carrier m end (c .in-Some .label) (c .in-Some .ensures tt) low (omega arith),
     )
 
-pub returns-then-end-memory : need.returns-then-end-memory
-returns-then-end-memory g c =
+pub returns-then-end-room : need.returns-then-end-room
+returns-then-end-room g c =
     let k = g .W·Kind in
     let scope = now (c .args .scope) in
     let carrier = g .M·Map .carrier (now (c .args .map)) in
     let m = c .loop-label .memory in
     let inv = c .loop-label .inv in
     record {
-      run = inv .4 ∙ settling-full (k .algebra) (k .means) scope carrier m (c .loop-label .end) (c .in-Some .label) (c .in-Some .ensures tt) (c .if-end-memory .taken);
+      run = inv .4 ∙ settling-full (k .algebra) (k .means) scope carrier m (c .loop-label .end) (c .in-Some .label) (c .in-Some .ensures tt) (omega arith);
       same = inv .2;
     }
 
