@@ -17,6 +17,7 @@ use Rattle.books.specs.BookLayout.{own, book-size, book-fault, shape-fault, fi
 use Rattle.books.specs.ChainLayout.{Contents, Complete, contents, books-fault, books-in}
 use Rattle.books.specs.Bytes.{byte-at}
 use Rattle.books.specs.Faults.{rule, first-fault, otherwise}
+use Rattle.books.proofs.Shown.{shows-all}
 
 -- no fault of two: none of the first, and none of the second
 neither-first : (o p : Option Refusal) → otherwise o p ≡ None → o ≡ None
@@ -37,7 +38,7 @@ no-bytes (b ∷ bs) e =
     let some = cond-true _ (Some Length) None (lt-ltb 0 (length (b ∷ bs)) (omega arith)) in
     absurd (let z : _≡_ {A = ℕ} 0 1 = cc (sym some ∙ e) in omega arith)
 
-book-sound : (bs : List ℕ) → book-fault bs ≡ None → fields-sound (own bs) ≡ true
+pub book-sound : (bs : List ℕ) → book-fault bs ≡ None → fields-sound (own bs) ≡ true
 book-sound bs e = fault-free (fields-sound (own bs)) (neither-second (shape-fault bs) _ e)
 
 pub books-whole : (n : ℕ) (bs : List ℕ) → books-fault n bs ≡ None → bs ≡ joined (λ b. b) (books-in n bs)
@@ -58,4 +59,5 @@ complete bs e =
     record {
       whole = sym (take-append-drop 27 bs) ∙ ap (λ r. take 27 bs ++ r) (books-whole (byte-at bs 6) (drop 27 bs) e);
       present = books-present (byte-at bs 6) (drop 27 bs) e;
+      shown = λ i b h. shows-all b (books-present (byte-at bs 6) (drop 27 bs) e i b h);
     }

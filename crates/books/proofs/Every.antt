@@ -20,3 +20,6 @@ every-fails p n k l e =
       | false ↦ λ f. refl
     ])
     refl
+
+pub every-holds : (p : ℕ → Bool) (n k : ℕ) → every p n ≡ true → k < n → p k ≡ true
+every-holds p n k h l = decided p n .0 h k l

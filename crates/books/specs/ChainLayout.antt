@@ -30,6 +30,7 @@ use Rattle.books.specs.declared.bounds.Bounds.the-variants.{Delay, DelayFee, A
 use Rattle.books.specs.Bytes.{byte-at, u16-at, u32-at}
 use Rattle.books.specs.Faults.{rule, first-fault, otherwise, judged}
 use Rattle.books.specs.BookLayout.{own, book-size, book-fault, fields-sound}
+use Rattle.books.specs.BookCarrier.{Shows-all}
 
 abbrev pub header-fault : List ℕ → Option Refusal
 header-fault bs =
@@ -87,10 +88,12 @@ contents bs =
       books = books-in (byte-at bs 6) (drop 27 bs);
     }
 
--- nothing is lost: the file is its header and then its books, and every entry and every link of a book is there
+-- nothing is lost: the file is its header and then its books, every entry and every link of a book is there, and
+-- its carrier shows them
 pub record Complete (bs : List ℕ) (c : Contents) : Type 0 where
   pub whole : bs ≡ take 27 bs ++ joined (λ b. b) (c .books)
   pub present : (i : ℕ) (b : List ℕ) → nth (c .books) i ≡ Some b → fields-sound b ≡ true
+  pub shown : (i : ℕ) (b : List ℕ) → nth (c .books) i ≡ Some b → Shows-all b
 
 abbrev pub chain-of : List ℕ → Result Contents Refusal
 chain-of bs = judged (otherwise (header-fault bs) (books-fault (byte-at bs 6) (drop 27 bs))) (contents bs)

@@ -1,6 +1,9 @@
 pub mod Bytes
+pub mod Columns
 pub mod Faults
 pub mod BookLayout
+pub mod BookCarrier
+pub mod BookCarrierLaws
 pub mod Sides
 pub mod ChainLayout
 pub mod Told

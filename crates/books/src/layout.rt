@@ -5,6 +5,7 @@ ghost use Prim.Native.Nat.{_≤_, _^_, _<_};
 ghost use lib.ListN.{length, drop};
 ghost use Rattle.std.specs.Options.{isSome};
 ghost use Rattle.std.specs.Vec.{made};
+ghost use Rattle.books.specs.BookCarrier.{is-entry, lists-entry, Shows-all};
 ghost use Rattle.books.specs.BookLayout.{node-count, link-count, entry-count, entry-of, link-of, entry-sound, link-sound, link-at, every, own, book-size, shape-fault, book-fault};
 ghost use Rattle.books.specs.ChainLayout.{lone-book};
 ghost use Rattle.books.specs.Faults.{judged};
@@ -69,7 +70,8 @@ fn checked_size(bytes: &[u8]) -> Result<usize, Refusal>
 impl<'a> Book<'a> {
     // A book that is read alone: no byte may follow it.
     pub fn read(bytes: &'a [u8]) -> Result<Book<'a>, Refusal>
-        ensures { λ r. ⌜ told-book r ≡ lone-book (now (bytes .entry)) ⌝ }
+        ensures answer { λ r. ⌜ told-book r ≡ lone-book (now (bytes .entry)) ⌝ }
+        ensures shown { λ r. ⌜ made r (λ b. Shows-all (bytes-of b)) ⌝ }
     {
         let book = Book::front(bytes)?;
         if book.bytes.len() < bytes.len() {
@@ -168,6 +170,25 @@ impl<'a> Book<'a> {
         } else {
             None
         }
+    }
+
+    // Whether it is a node and one of the entries.
+    pub fn is_entry(&self, node: u16) -> bool
+        ensures { λ r. ⌜ r ≡ is-entry (now (now (self .entry) .bytes)) node ⌝ }
+    {
+        node < self.node_count() && self.lists_entry(node)
+    }
+
+    // Whether one of the entries says `node`.
+    fn lists_entry(&self, node: u16) -> bool
+        ensures { λ r. ⌜ r ≡ lists-entry (now (now (self .entry) .bytes)) node ⌝ }
+    {
+        for i in 0..self.entry_count() as usize {
+            if u16_at(self.bytes, 11 + 2 * i) == node {
+                return true;
+            }
+        }
+        false
     }
 
     pub fn link(&self, place: usize) -> Option<Link>

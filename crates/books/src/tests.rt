@@ -1,6 +1,7 @@
 // The reader on the worked chain: two carriers, and each way of breaking a byte of it.
 
 use super::*;
+use carriers::Map;
 use carriers::Refusal;
 use carriers::RefusalDebug;
 use carriers::RefusalPartialEq;
@@ -8,6 +9,11 @@ use carriers::Side;
 use carriers::SideDebug;
 use carriers::SidePartialEq;
 use std::test::*;
+use weights::Delay;
+use weights::Fee;
+use weights::Pair;
+use weights::PairKind;
+use weights::SumKind;
 
 // Its header has 27 bytes; book 0 begins at 27, its entries at 38 and its links at 42, book 1 at 138 and its links at 149.
 const WORKED: [u8; 245] = [
@@ -386,4 +392,32 @@ fn a_bound_above_the_ceiling_is_read_as_the_ceiling() -> Result<(), Fail> {
         }
         _ => Err(Fail::new("another selection")),
     }
+}
+
+#[test]
+fn a_book_weighs_its_links_in_each_kind() -> Result<(), Fail> {
+    let book = Book::read(&WORKED[138..245])?;
+    for (place, delay, fee) in [(0, 1, 0), (1, 2, 2), (2, 3, 0), (4, 0, 0)] {
+        let alone: Delay = book.weight(place);
+        check_eq(alone.amount(), delay)?;
+        let both: Pair<Delay, Fee> = book.weight(place);
+        check_eq(both.first.amount(), delay)?;
+        check_eq(both.second.amount(), fee)?;
+    }
+    Ok(())
+}
+
+#[test]
+fn a_book_tells_its_entries() -> Result<(), Fail> {
+    let chain = Chain::read(&WORKED)?;
+    let book = chain.book(0).ok_or("no book")?;
+    check(book.is_entry(0) && book.is_entry(1))?;
+    check(!book.is_entry(2) && !book.is_entry(3))
+}
+
+#[test]
+fn a_column_past_the_end_reads_as_0() -> Result<(), Fail> {
+    let short = Pair::<Delay, Fee>::read(&[7]);
+    check_eq(short.first.amount(), 7)?;
+    check_eq(short.second.amount(), 0)
 }

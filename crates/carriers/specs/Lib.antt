@@ -1,2 +1,7 @@
 pub mod Refusals
 pub mod Carrier
+pub mod CarrierLaws
+pub mod Lines
+pub mod LineLaws
+pub mod Fences
+pub mod FenceLaws

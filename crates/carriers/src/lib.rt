@@ -1,8 +1,15 @@
 // Carriers: what is known of one carrier's network, and the refusals that every call and reader answers with.
 
+mod fences;
+mod lines;
 mod maps;
 mod refusals;
+mod sizes;
 
+pub use fences::Fence;
+pub use fences::FenceMap;
+pub use lines::Line;
+pub use lines::LineMap;
 pub use maps::Map;
 pub use refusals::Refusal;
 pub use refusals::RefusalDebug;
