@@ -1,27 +1,20 @@
 -- A book's carrier is sound, whatever its bytes are.
-use mathlib.Core.Path.{_≡_, refl, sym, ap, subst, _∙_}
+use mathlib.Core.Path.{_≡_, refl, ap, subst, _∙_}
 use mathlib.Core.Bool.{Bool, true, false, cond, _&&_, _||_}
 use mathlib.Core.List.{List}
 use mathlib.Core.Logic.{⊎-elim}
-use Prim.Native.Nat.{ℕ, _+_, _<_, _≤_}
+use Prim.Native.Nat.{ℕ, _+_, _<_}
 use native.Mathlib.Omega.{arith}
-use lib.Dec.{T, eqb, ltb, leb, ltb→lt}
-use Rattle.std.specs.declared.option.Option.{Option}
+use lib.Dec.{T, eqb, ltb, leb}
 use Rattle.std.specs.declared.option.Option.the-variants.{None, Some}
 use Rattle.std.specs.Options.{mapped}
 use Rattle.std.proofs.shelf.Tests.{ltb-true, eqb-true, le-ltb, cond-false, and-parts, and-left, or-cases}
-use Rattle.carriers.specs.declared.Side.{Side}
 use Rattle.carriers.specs.declared.Side.the-variants.{Inside, Onward}
 use Rattle.carriers.specs.Carrier as map
-use Rattle.carriers.specs.CarrierLaws.{from-mapped}
-use Rattle.books.specs.declared.records.Link.{Link}
+use Rattle.carriers.specs.Present.{from-tested, from-mapped}
 use Rattle.books.specs.Bytes.{byte-at, u16-at}
-use Rattle.books.specs.BookLayout.{node-count, link-count, link-start, link-at, link-of, link-sound, side-of}
+use Rattle.books.specs.BookLayout.{node-count, link-count, link-start, link-at, link-of, link-sound}
 use Rattle.books.specs.BookCarrier.{is-entry, placed, book-carrier}
-
-passed : {X : Type 0} (b : Bool) (x l : X) → cond b (Some x) None ≡ Some l → (b ≡ true) × (x ≡ l)
-passed true x l e = (refl, cc)
-passed false x l e = absurd (let z : _≡_ {A = ℕ} 0 1 = cc in omega arith)
 
 inside-zero : (t : Bool) → cond t Inside Onward ≡ Inside → t ≡ true
 inside-zero true e = refl
@@ -33,10 +26,11 @@ T-true false t = absurd t
 
 module _ (b : List ℕ) where
   -- a link that is present is the record at its place, and keeps the rules
-  present : (i : ℕ) (l : Link) → link-of b i ≡ Some l → (link-sound b (node-count b) (link-start b i) ≡ true) × (link-at b (link-start b i) ≡ l)
+  present : (i : ℕ) (l : map.Link (List ℕ)) → book-carrier b .at i ≡ Some l → (link-sound b (node-count b) (link-start b i) ≡ true) × (placed (link-at b (link-start b i)) ≡ l)
   present i l e =
-      let p = passed (ltb i (link-count b) && link-sound b (node-count b) (link-start b i)) (link-at b (link-start b i)) l e in
-      (and-parts (ltb i (link-count b)) _ (p .0) .1, p .1)
+      let k = from-mapped placed (link-of b i) l e in
+      let t = from-tested (ltb i (link-count b) && link-sound b (node-count b) (link-start b i)) (link-at b (link-start b i)) (k .0) (k .1) in
+      (and-parts (ltb i (link-count b)) _ (t .0) .1, ap placed (t .1) ∙ k .2)
 
   tail-sound : (n p : ℕ) → link-sound b n p ≡ true → link-at b p .tail < n
   tail-sound n p h = ltb-true (u16-at b p) n (and-parts (ltb (u16-at b p) n) _ h .0)
@@ -56,22 +50,19 @@ module _ (b : List ℕ) where
 
   tail-below : (i : ℕ) (l : map.Link (List ℕ)) → book-carrier b .at i ≡ Some l → l .tail < node-count b
   tail-below i l e =
-      let k = from-mapped placed (link-of b i) l e in
-      let r = present i (k .0) (k .1) in
+      let r = present i l e in
       subst
       (λ (x : map.Link (List ℕ)). x .tail < node-count b)
-      (ap placed (r .1) ∙ k .2)
+      (r .1)
       (tail-sound (node-count b) (link-start b i) (r .0))
 
   head-below : (i : ℕ) (l : map.Link (List ℕ)) → book-carrier b .at i ≡ Some l → l .side ≡ Inside → l .head < node-count b
   head-below i l e inside =
-      let k = from-mapped placed (link-of b i) l e in
-      let r = present i (k .0) (k .1) in
-      let same = ap placed (r .1) ∙ k .2 in
+      let r = present i l e in
       subst
       (λ (x : map.Link (List ℕ)). x .head < node-count b)
-      same
-      (head-sound (node-count b) (link-start b i) (r .0) (ap (λ x. x .side) same ∙ inside))
+      (r .1)
+      (head-sound (node-count b) (link-start b i) (r .0) (ap (λ x. x .side) (r .1) ∙ inside))
 
   pub book-carrier-sound : map.Sound (book-carrier b)
   book-carrier-sound =

@@ -4,7 +4,7 @@ ghost use denote.Ref.{now};
 ghost use mathlib.Core.List.{List};
 ghost use mathlib.Core.Path.{_≡_};
 ghost use Prim.Native.Nat.{ℕ, _+_, _≤_, min};
-ghost use Rattle.books.specs.Columns.{front, sum-from, width-from, colours-from, pair-from};
+ghost use Rattle.books.specs.Columns.{front-column, sum-from, width-from, colours-from, pair-from};
 use weights::Colours;
 use weights::ColoursKind;
 use weights::Kind;
@@ -32,8 +32,8 @@ pub trait BookKind: Kind {
         ensures { λ r. ⌜ r ≡ reads (now (numbers .entry)) ⌝ };
 }
 
-fn front(numbers: &[u32]) -> u32
-    ensures { λ r. ⌜ r ≡ front (now (numbers .entry)) ⌝ }
+fn front_column(numbers: &[u32]) -> u32
+    ensures { λ r. ⌜ r ≡ front-column (now (numbers .entry)) ⌝ }
 {
     match numbers {
         [first, ..] => *first,
@@ -51,7 +51,7 @@ pub impl<U> BookKind for Sum<U> as SumBook {
     }
 
     fn read(numbers: &[u32]) -> Sum<U> {
-        Sum::new(front(numbers))
+        Sum::new(front_column(numbers))
     }
 }
 
@@ -66,7 +66,7 @@ pub impl BookKind for Width as WidthBook {
 
     fn read(numbers: &[u32]) -> Width {
         Width {
-            mbits: front(numbers),
+            mbits: front_column(numbers),
         }
     }
 }
@@ -82,7 +82,7 @@ pub impl BookKind for Colours as ColoursBook {
 
     fn read(numbers: &[u32]) -> Colours {
         Colours {
-            bits: front(numbers),
+            bits: front_column(numbers),
         }
     }
 }

@@ -1,23 +1,17 @@
 -- A fence over a sound carrier is a sound carrier.
 use mathlib.Core.Path.{_≡_, ap}
-use mathlib.Core.Bool.{Bool, true, false, cond}
-use Prim.Native.Nat.{ℕ}
-use native.Mathlib.Omega.{arith}
 use Rattle.std.specs.declared.option.Option.{Option}
 use Rattle.std.specs.declared.option.Option.the-variants.{None, Some}
 use Rattle.weights.specs.Algebra.{Algebra}
 use Rattle.carriers.specs.Carrier.{Link, Carrier, Sound}
 use Rattle.carriers.specs.Fences.{fenced, fence}
-
-kept : {X : Type 0} (b : Bool) (x l : X) → cond b (Some x) None ≡ Some l → Some x ≡ Some l
-kept true x l e = e
-kept false x l e = absurd (let z : _≡_ {A = ℕ} 0 1 = cc in omega arith)
+use Rattle.carriers.specs.Present.{from-tested}
 
 module _ {W : Type 0} (A : Algebra) (f : W → A .Weight) (limit : W) where
   -- what stands behind the fence stands in the map
   stands : (o : Option (Link W)) (l : Link W) → fenced A f limit o ≡ Some l → o ≡ Some l
   stands None l e = e
-  stands (Some k) l e = kept (A .good (f (k .weight)) (f limit)) k l e
+  stands (Some k) l e = ap Some (from-tested (A .good (f (k .weight)) (f limit)) k l e .1)
 
   pub fence-sound : (c : Carrier W) → Sound c → Sound (fence A f limit c)
   fence-sound c s =

@@ -1,5 +1,6 @@
 pub mod Refusals
 pub mod Carrier
+pub mod Present
 pub mod CarrierLaws
 pub mod Lines
 pub mod LineLaws

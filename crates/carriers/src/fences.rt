@@ -1,4 +1,4 @@
-// A fence: a map without the links that weigh more than a limit.
+// A fence: a map without the links whose weight is not within a limit.
 
 ghost use Rattle.carriers.specs.Fences.{fence};
 ghost use Rattle.carriers.specs.FenceLaws.{fence-sound};

@@ -1,0 +1,12 @@
+pub mod Runs
+pub mod Stages
+pub mod Rules
+pub mod Lists
+pub mod Crossings
+pub mod Calls
+pub mod Expansion
+pub mod Routes
+pub mod Histories
+pub mod Promise
+pub mod Example
+pub mod Worked
