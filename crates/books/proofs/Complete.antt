@@ -16,7 +16,8 @@ use Rattle.carriers.specs.declared.refusals.Refusal.the-variants.{Length, Field
 use Rattle.books.specs.BookLayout.{own, book-size, book-fault, shape-fault, fields-sound}
 use Rattle.books.specs.ChainLayout.{Contents, Complete, contents, books-fault, books-in}
 use Rattle.books.specs.Bytes.{byte-at}
-use Rattle.books.specs.Faults.{rule, first-fault, otherwise}
+use Rattle.carriers.specs.Rules.{refusal}
+use Rattle.books.specs.Faults.{otherwise}
 use Rattle.books.proofs.Shown.{shows-all}
 
 -- no fault of two: none of the first, and none of the second
@@ -28,7 +29,7 @@ neither-second : (o p : Option Refusal) → otherwise o p ≡ None → p ≡ Non
 neither-second None p e = e
 neither-second (Some r) p e = absurd (let z : _≡_ {A = ℕ} 0 1 = cc in omega arith)
 
-fault-free : (b : Bool) → first-fault (rule (not b) Field ∷ []) ≡ None → b ≡ true
+fault-free : (b : Bool) → refusal ((not b, Field) ∷ []) ≡ None → b ≡ true
 fault-free true e = refl
 fault-free false e = absurd (let z : _≡_ {A = ℕ} 0 1 = cc in omega arith)
 

@@ -20,7 +20,8 @@ use Rattle.carriers.specs.declared.refusals.Refusal.{Refusal}
 use Rattle.carriers.specs.declared.refusals.Refusal.the-variants.{Size, Mark, Version, Length, Field}
 use Rattle.books.specs.declared.records.Link.{Link}
 use Rattle.books.specs.Bytes.{byte-at, u16-at, u32-at}
-use Rattle.books.specs.Faults.{rule, first-fault, otherwise}
+use Rattle.carriers.specs.Rules.{refusal}
+use Rattle.books.specs.Faults.{otherwise}
 
 abbrev pub node-count : List ℕ → ℕ
 node-count bs = u16-at bs 5
@@ -96,13 +97,13 @@ fields-sound b = every (entry-sound b) (entry-count b) && every (λ i. isSome (l
 -- why the front of bs has not the shape of a book, whatever its entries and links say
 abbrev pub shape-fault : List ℕ → Option Refusal
 shape-fault bs =
-    first-fault
-    (rule (ltb (length bs) 11) Length
-    ∷ rule (not (sameBytes (take 3 bs) (codes "LNK"))) Mark
-    ∷ rule (not (eqb (u16-at bs 3) 1)) Version
-    ∷ rule (eqb (node-count bs) 0 || (ltb 1024 (node-count bs) || ltb 8192 (link-count bs))) Size
-    ∷ rule (ltb (length bs) (book-size bs)) Length
+    refusal
+    ((ltb (length bs) 11, Length)
+    ∷ (not (sameBytes (take 3 bs) (codes "LNK")), Mark)
+    ∷ (not (eqb (u16-at bs 3) 1), Version)
+    ∷ (eqb (node-count bs) 0 || (ltb 1024 (node-count bs) || ltb 8192 (link-count bs)), Size)
+    ∷ (ltb (length bs) (book-size bs), Length)
     ∷ [])
 
 abbrev pub book-fault : List ℕ → Option Refusal
-book-fault bs = otherwise (shape-fault bs) (first-fault (rule (not (fields-sound (own bs))) Field ∷ []))
+book-fault bs = otherwise (shape-fault bs) (refusal ((not (fields-sound (own bs)), Field) ∷ []))

@@ -28,23 +28,24 @@ use Rattle.carriers.specs.declared.refusals.Refusal.the-variants.{Mark, Version
 use Rattle.books.specs.declared.bounds.Bounds.{Bounds}
 use Rattle.books.specs.declared.bounds.Bounds.the-variants.{Delay, DelayFee, All}
 use Rattle.books.specs.Bytes.{byte-at, u16-at, u32-at}
-use Rattle.books.specs.Faults.{rule, first-fault, otherwise, judged}
+use Rattle.carriers.specs.Rules.{refusal}
+use Rattle.books.specs.Faults.{otherwise, judged}
 use Rattle.books.specs.BookLayout.{own, book-size, book-fault, fields-sound}
 use Rattle.books.specs.BookCarrier.{Shows-all}
 
 abbrev pub header-fault : List ℕ → Option Refusal
 header-fault bs =
-    first-fault
-    (rule (ltb (length bs) 27 || ltb 65536 (length bs)) Length
-    ∷ rule (not (sameBytes (take 3 bs) (codes "CHN"))) Mark
-    ∷ rule (not (eqb (u16-at bs 3) 1)) Version
-    ∷ rule (eqb (byte-at bs 5) 0 || ltb 3 (byte-at bs 5)) Field
-    ∷ rule (eqb (byte-at bs 6) 0 || ltb 16 (byte-at bs 6)) Field
+    refusal
+    ((ltb (length bs) 27 || ltb 65536 (length bs), Length)
+    ∷ (not (sameBytes (take 3 bs) (codes "CHN")), Mark)
+    ∷ (not (eqb (u16-at bs 3) 1), Version)
+    ∷ (eqb (byte-at bs 5) 0 || ltb 3 (byte-at bs 5), Field)
+    ∷ (eqb (byte-at bs 6) 0 || ltb 16 (byte-at bs 6), Field)
     ∷ [])
 
 -- n books one after the other, and no byte more
 abbrev pub books-fault : ℕ → List ℕ → Option Refusal
-books-fault zero bs = first-fault (rule (ltb 0 (length bs)) Length ∷ [])
+books-fault zero bs = refusal ((ltb 0 (length bs), Length) ∷ [])
 books-fault (suc n) bs = otherwise (book-fault bs) (books-fault n (drop (book-size bs) bs))
 
 abbrev pub books-in : ℕ → List ℕ → List (List ℕ)

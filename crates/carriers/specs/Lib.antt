@@ -1,4 +1,5 @@
 pub mod Refusals
+pub mod Rules
 pub mod Carrier
 pub mod Present
 pub mod CarrierLaws

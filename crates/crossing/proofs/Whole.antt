@@ -21,7 +21,7 @@ use Rattle.crossing.specs.declared.scopes.Before.the-variants.{Destination}
 use Rattle.crossing.specs.declared.scopes.Scope.{Scope}
 use Rattle.crossing.specs.Scopes.{view, before-labels, destination-of}
 use Rattle.crossing.specs.Settling.{between, settling, start-labels}
-use Rattle.crossing.specs.Crossed.{outcome, unfit, written, blanked}
+use Rattle.crossing.specs.Crossed.{outcome, unfit}
 use Rattle.crossing.proofs.Runs.{before-same, between-push}
 
 -- the same case, with other facts

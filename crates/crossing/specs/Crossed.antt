@@ -18,6 +18,7 @@ use Rattle.carriers.specs.declared.refusals.Refusal.the-variants.{Memory, Size,
 use Rattle.carriers.specs.Carrier.{Carrier}
 use Rattle.stepping.specs.declared.Label.{Label}
 use Rattle.stepping.specs.Labels.{Labels, blank}
+use Rattle.stepping.specs.Memory.{written, cleared}
 use Rattle.stepping.specs.Crossing.{Outcome, done, full, crossing}
 use Rattle.crossing.specs.declared.scopes.Scope.{Scope}
 use Rattle.crossing.specs.Scopes.{view, before-labels}
@@ -33,13 +34,7 @@ answer-of (Some e) o = Err e
 answer-of None (done run) = Ok (length run)
 answer-of None full = Err Full
 
-abbrev pub written : {V : Type 0} → ℕ → List (Label V) → List (Label V) → List (Label V)
-written n ls run = take n ls ++ (run ++ drop (n + length run) ls)
-
-abbrev pub blanked : (A : Algebra) → ℕ → Labels A → Labels A
-blanked A n ls = take n ls ++ replicate (length ls - n) (blank (A .neutral))
-
 abbrev pub memory-of : (A : Algebra) → ℕ → Labels A → Option Refusal → Outcome (A .Weight) → Labels A
 memory-of A n ls (Some e) o = ls
 memory-of A n ls None (done run) = written n ls run
-memory-of A n ls None full = blanked A n ls
+memory-of A n ls None full = cleared A n ls

@@ -5,8 +5,8 @@ ghost use Prim.Native.Nat.{_+_, _^_, _<_, _≤_};
 ghost use lib.ListN.{length, take, drop};
 ghost use Rattle.std.specs.Options.{Cases, mapped};
 ghost use Rattle.stepping.specs.Labels.{meant, meanings};
+ghost use Rattle.stepping.specs.Memory.{cleared};
 ghost use Rattle.stepping.specs.Crossing.{first, done, full};
-ghost use Rattle.crossing.specs.Crossed.{blanked};
 ghost use Rattle.crossing.specs.Scopes.{start-of, before-labels, view};
 ghost use Rattle.crossing.specs.Settling.{between, settling, Begun, Settled};
 use crate::parts::front;
@@ -47,7 +47,7 @@ fn next_label<W: Kind, M: Map<W>>(
 
 // Blanks every label from `from` on.
 pub(crate) fn blank_from<W: Kind>(memory: &mut [Label<W>], from: usize)
-    ensures labels { λ _. ⌜ meanings (W·Kind .means) (now (memory .exit)) ≡ blanked (W·Kind .algebra) from (meanings (W·Kind .means) (now (memory .entry))) ⌝ }
+    ensures labels { λ _. ⌜ meanings (W·Kind .means) (now (memory .exit)) ≡ cleared (W·Kind .algebra) from (meanings (W·Kind .means) (now (memory .entry))) ⌝ }
     ensures same { λ _. ⌜ take from (now (memory .exit)) ≡ take from (now (memory .entry)) ⌝ }
 {
     for i in from..memory.len() {

@@ -2,9 +2,6 @@
 --   view A p c marks m            what the crossing of the carrier c sees, where labels at the nodes of marks are marked
 --   outcome A p c marks m         the run of that crossing, in the labels that are not in use
 --   with-run p n                  the progress with a run of n labels more
---   written n m run               the memory m with the run from the key n on
---   blanks A n                    n blank labels
---   cleared A n m                 the memory m with blank labels from the key n on
 --   crossed A p m stage answer o  what is left and answered where the outcome is o: if the run ended, stage of the
 --                                 progress and answer of the run, with the run written after the labels in use; and
 --                                 if memory is full, every label that is not in use blank, and the rest as it was
@@ -17,6 +14,7 @@ use Rattle.weights.specs.Algebra.{Algebra}
 use Rattle.carriers.specs.Carrier.{Carrier}
 use Rattle.carriers.specs.declared.refusals.Refusal.the-variants as refusals
 use Rattle.stepping.specs.Labels.{Labels, blank}
+pub use Rattle.stepping.specs.Memory.{written, blanks, cleared}
 use Rattle.stepping.specs.View.{View}
 use Rattle.stepping.specs.Crossing.{Outcome, done, full, crossing}
 use Rattle.histories.specs.Runs.{latest, used, labels-of}
@@ -47,15 +45,6 @@ with-run p n =
       memory = p .memory;
       runs = record { start = used (p .runs); length = n } ∷ p .runs;
     }
-
-abbrev pub written : {X : Type 0} → ℕ → List X → List X → List X
-written n m run = take n m ++ (run ++ drop (n + length run) m)
-
-abbrev pub blanks : (A : Algebra) → ℕ → Labels A
-blanks A n = replicate n (blank (A .neutral))
-
-abbrev pub cleared : (A : Algebra) → ℕ → Labels A → Labels A
-cleared A n m = take n m ++ blanks A (length m - n)
 
 abbrev pub crossed : (A : Algebra) {X : Type 0} → Progress (A .Weight) → Labels A
     → (Progress (A .Weight) → Stage (A .Weight)) → (Labels A → X) → Outcome (A .Weight) → After (A .Weight) X

@@ -1,5 +1,4 @@
 -- The rules by which a call is refused, each a test with the refusal if it holds.
---   refusal rs              the refusal of the first rule that holds, if one does
 --   unless o refuse accept  refuse of the refusal o, and accept where there is none
 --   outside n o             o is a node, and not below n
 --   open-rules and so on    the rules of each call, in the order of their refusals' numbers; the stage goes before
@@ -13,19 +12,13 @@ use Rattle.std.specs.declared.option.Option.{Option}
 use Rattle.std.specs.declared.option.Option.the-variants.{Some, None}
 use Rattle.weights.specs.Algebra.{Algebra}
 use Rattle.carriers.specs.Carrier.{Carrier}
+pub use Rattle.carriers.specs.Rules.{Rule, refusal}
 use Rattle.carriers.specs.declared.refusals.Refusal.{Refusal}
 use Rattle.carriers.specs.declared.refusals.Refusal.the-variants as refusals
 use Rattle.stepping.specs.declared.Label.{Label}
 use Rattle.stepping.specs.Labels.{Labels}
 use Rattle.histories.specs.Runs.{used}
 use Rattle.histories.specs.Stages.{Progress, due}
-
-abbrev pub Rule : Type 0
-Rule = Bool × Refusal
-
-abbrev pub refusal : List Rule → Option Refusal
-refusal [] = None
-refusal (r ∷ rs) = cond (r .0) (Some (r .1)) (refusal rs)
 
 abbrev pub unless : {X : Type 0} → Option Refusal → (Refusal → X) → X → X
 unless (Some r) refuse accept = refuse r

@@ -1,4 +1,5 @@
 pub mod Labels
+pub mod Memory
 pub mod View
 pub mod Candidates
 pub mod Crossing
