@@ -44,7 +44,7 @@ fn is_first<W: Kind>(a: Label<W>, b: Label<W>) -> bool
     a.weight.before(b.weight) || (!b.weight.before(a.weight) && is_lower(a, b))
 }
 
-// The first of the best so far and the candidate, if that counts.
+// The first of the best so far and the candidate, if that counts. Whether it counts is asked last: it costs most.
 fn better<W: Kind>(
     bounds: W,
     run: &[Label<W>],
@@ -53,16 +53,19 @@ fn better<W: Kind>(
 ) -> Option<Label<W>>
     ensures { λ r. ⌜ mapped (meant (W·Kind .means)) r ≡ chosen (W·Kind .algebra) (W·Kind .means bounds) (meanings (W·Kind .means) (now (run .entry))) (mapped (meant (W·Kind .means)) best) (meant (W·Kind .means) candidate) ⌝ }
 {
-    if !counts(bounds, run, candidate) {
-        return best;
-    }
     match best {
-        None => Some(candidate),
         Some(held) => {
-            if is_first(candidate, held) {
+            if is_first(candidate, held) && counts(bounds, run, candidate) {
                 Some(candidate)
             } else {
                 Some(held)
+            }
+        }
+        None => {
+            if counts(bounds, run, candidate) {
+                Some(candidate)
+            } else {
+                None
             }
         }
     }
