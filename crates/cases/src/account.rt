@@ -15,16 +15,16 @@ use weights::Pair;
 use weights::PairKind;
 use weights::SumKind;
 
-pub type Cost = Pair<Delay, Fee>;
+pub(crate) type Cost = Pair<Delay, Fee>;
 
-pub fn cost(delay: u32, fee: u32) -> Cost {
+pub(crate) fn cost(delay: u32, fee: u32) -> Cost {
     Pair {
         first: Delay::new(delay),
         second: Fee::new(fee),
     }
 }
 
-pub fn blank() -> Label<Cost> {
+pub(crate) fn blank() -> Label<Cost> {
     Label {
         node: 0,
         weight: cost(0, 0),
@@ -36,13 +36,13 @@ pub fn blank() -> Label<Cost> {
 
 // The run of a crossing: where its labels stand.
 #[derive(Clone, Copy)]
-pub struct Run {
-    pub start: usize,
-    pub length: usize,
+pub(crate) struct Run {
+    pub(crate) start: usize,
+    pub(crate) length: usize,
 }
 
 // What the crossing after this run starts from.
-pub fn after(run: Run) -> Before {
+pub(crate) fn after(run: Run) -> Before {
     Before::Run {
         start: run.start,
         length: run.length,
@@ -50,7 +50,7 @@ pub fn after(run: Run) -> Before {
 }
 
 // Crosses one carrier and prints the labels that it settles.
-pub fn crossed<M: Map<Cost>>(
+pub(crate) fn crossed<M: Map<Cost>>(
     rt: &impl Print,
     what: &str,
     map: &M,

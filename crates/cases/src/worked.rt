@@ -249,7 +249,7 @@ const BOOK_1: [u8; 107] = [
 ];
 
 // Both carriers, from node 0 of the second to node 2 of the first, within delay 8 and fee 6.
-pub fn chain(rt: &impl Print) -> io::Result<()> {
+pub(crate) fn chain(rt: &impl Print) -> io::Result<()> {
     println!(rt, "worked chain within delay 8, fee 6")?;
     let (Ok(first), Ok(second)) = (Book::read(&BOOK_0), Book::read(&BOOK_1)) else {
         return println!(rt, "a book was refused");
@@ -290,7 +290,7 @@ pub fn chain(rt: &impl Print) -> io::Result<()> {
 }
 
 // The first carrier alone, with the destination as the source.
-pub fn alone(rt: &impl Print) -> io::Result<()> {
+pub(crate) fn alone(rt: &impl Print) -> io::Result<()> {
     println!(rt, "carrier 0 alone within delay 3, fee 6")?;
     let Ok(first) = Book::read(&BOOK_0) else {
         return println!(rt, "the book was refused");
@@ -307,7 +307,7 @@ pub fn alone(rt: &impl Print) -> io::Result<()> {
 }
 
 // A fence takes the direct link away, whose delay is 5.
-pub fn fenced(rt: &impl Print) -> io::Result<()> {
+pub(crate) fn fenced(rt: &impl Print) -> io::Result<()> {
     println!(rt, "carrier 0 behind a fence at delay 4, fee 4")?;
     let Ok(first) = Book::read(&BOOK_0) else {
         return println!(rt, "the book was refused");
@@ -328,7 +328,7 @@ pub fn fenced(rt: &impl Print) -> io::Result<()> {
 }
 
 // A line of three nodes after a line of two, every link with delay 1 and fee 2.
-pub fn line(rt: &impl Print) -> io::Result<()> {
+pub(crate) fn line(rt: &impl Print) -> io::Result<()> {
     println!(rt, "two lines within delay 8, fee 8")?;
     match Line::new(2, cost(1, 2)) {
         Ok(first) => lines(rt, &first),

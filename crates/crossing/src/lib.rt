@@ -11,3 +11,4 @@ pub use crossings::cross;
 pub use scopes::Before;
 pub use scopes::Marks;
 pub use scopes::Scope;
+pub use settling::blank_from;

@@ -46,7 +46,7 @@ fn next_label<W: Kind, M: Map<W>>(
 }
 
 // Blanks every label from `from` on.
-pub(crate) fn blank_from<W: Kind>(memory: &mut [Label<W>], from: usize)
+pub fn blank_from<W: Kind>(memory: &mut [Label<W>], from: usize)
     ensures labels { λ _. ⌜ meanings (W·Kind .means) (now (memory .exit)) ≡ cleared (W·Kind .algebra) from (meanings (W·Kind .means) (now (memory .entry))) ⌝ }
     ensures same { λ _. ⌜ take from (now (memory .exit)) ≡ take from (now (memory .entry)) ⌝ }
 {

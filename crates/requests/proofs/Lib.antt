@@ -1,0 +1,9 @@
+pub mod Tables
+pub mod Keeping
+pub mod Opening
+pub mod Refusing
+pub mod Seen
+pub mod Settled
+pub mod Passing
+pub mod Moving
+pub mod Listing

@@ -1,0 +1,3 @@
+pub mod Kept
+pub mod Scoped
+pub mod Listed
