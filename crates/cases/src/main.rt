@@ -1,6 +1,8 @@
-// Crosses chains of carriers and prints each label that is settled, as an account that a person can follow.
+// Crosses chains of carriers, alone and by requests, and prints each label, answer and list, as an account that a
+// person can follow.
 
 mod account;
+mod requested;
 mod worked;
 
 use std::io;
@@ -9,5 +11,6 @@ fn main(rt: LibcRuntime) -> io::Result<()> {
     worked::chain(&rt)?;
     worked::alone(&rt)?;
     worked::fenced(&rt)?;
-    worked::line(&rt)
+    worked::line(&rt)?;
+    worked::requests(&rt)
 }

@@ -5,6 +5,7 @@ use crate::account::after;
 use crate::account::blank;
 use crate::account::cost;
 use crate::account::crossed;
+use crate::requested;
 use books::Book;
 use books::BookMap;
 use books::PairBook;
@@ -325,6 +326,23 @@ pub(crate) fn fenced(rt: &impl Print) -> io::Result<()> {
     };
     crossed(rt, "carrier 0", &map, scope, &mut memory)?;
     Ok(())
+}
+
+// Requests for the chain, within several bounds, and what refused calls leave.
+pub(crate) fn requests(rt: &impl Print) -> io::Result<()> {
+    let (Ok(first), Ok(second)) = (Book::read(&BOOK_0), Book::read(&BOOK_1)) else {
+        return println!(rt, "a book was refused");
+    };
+    for (delay, fee) in [(8, 6), (8, 5), (6, 3), (6, 2), (5, 3)] {
+        requested::worked(rt, &first, &second, cost(delay, fee), &mut [blank(); 7])?;
+    }
+    requested::worked(rt, &first, &second, cost(8, 6), &mut [blank(); 6])?;
+    requested::alone(rt, &first)?;
+    requested::refused(rt, &first, &second)?;
+    match Line::new(1, cost(1, 2)) {
+        Ok(line) => requested::sixteen(rt, &line, &mut [blank(); 16]),
+        Err(refusal) => println!(rt, "refused {refusal}"),
+    }
 }
 
 // A line of three nodes after a line of two, every link with delay 1 and fee 2.

@@ -38,7 +38,7 @@ module _ (A : Algebra) (b : A .Weight) (t : ℕ) (m : Labels A) where
       record {
         stage = opened (record { bounds = b; destination = t; memory = length m; runs = [] });
         labels = blanks A (length m);
-        answer = Ok tt
+        answer = Ok tt;
       }
 
   pub open-refuses : (e : Refusal) → refusal (open-rules A b m) ≡ Some e → on-open A idle b t m ≡ refused idle m e

@@ -28,5 +28,5 @@ scope-of p marks =
       bounds = p .bounds;
       used = used (runs-of (p .runs));
       before = before-of (p .destination) (runs-of (p .runs));
-      marks = marks
+      marks = marks;
     }

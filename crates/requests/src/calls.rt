@@ -23,8 +23,8 @@ use crate::stages::Runs;
 use crate::stages::Stage;
 use carriers::Map;
 use carriers::Refusal;
-use crossing::blank_from;
 use crossing::Marks;
+use crossing::blank_from;
 use histories::Ending;
 use histories::Item;
 use stepping::Label;
@@ -39,7 +39,12 @@ impl<W: Kind> Request<W> {
     }
 
     // Opens an idle request and blanks the memory.
-    pub fn open(&mut self, bounds: W, destination: u16, memory: &mut [Label<W>]) -> Result<(), Refusal>
+    pub fn open(
+        &mut self,
+        bounds: W,
+        destination: u16,
+        memory: &mut [Label<W>],
+    ) -> Result<(), Refusal>
         ensures call { λ r. ⌜ did (W·Kind .means) (now (self .exit) .stage) (now (memory .exit)) r ≡ on-open (W·Kind .algebra) (stage-of (W·Kind .means) (now (self .entry) .stage)) (W·Kind .means bounds) destination (meanings (W·Kind .means) (now (memory .entry))) ⌝ }
         ensures same { λ r. ⌜ (isErr r ≡ true → (now (self .exit) .stage ≡ now (self .entry) .stage) × (now (memory .exit) ≡ now (memory .entry))) ⌝ }
     {
@@ -53,7 +58,12 @@ impl<W: Kind> Request<W> {
                 }
                 let length = memory.len();
                 blank_from(memory, 0);
-                self.stage = Stage::Open(Progress { bounds, destination, memory: length, runs: Runs::none() });
+                self.stage = Stage::Open(Progress {
+                    bounds,
+                    destination,
+                    memory: length,
+                    runs: Runs::none(),
+                });
                 Ok(())
             }
             _ => Err(Refusal::Stage),
@@ -79,7 +89,12 @@ impl<W: Kind> Request<W> {
 
     // Finishes at the source with the map of the last carrier, and answers how many routes are listed there, and how
     // many labels were settled.
-    pub fn finish<M: Map<W>>(&mut self, map: &M, source: u16, memory: &mut [Label<W>]) -> Result<Ending, Refusal>
+    pub fn finish<M: Map<W>>(
+        &mut self,
+        map: &M,
+        source: u16,
+        memory: &mut [Label<W>],
+    ) -> Result<Ending, Refusal>
         ensures call { λ r. ⌜ did (W·Kind .means) (now (self .exit) .stage) (now (memory .exit)) r ≡ on-finish (W·Kind .algebra) (stage-of (W·Kind .means) (now (self .entry) .stage)) (carrier-meant (W·Kind .means) (M·Map .carrier (now (map .entry)))) source (meanings (W·Kind .means) (now (memory .entry))) ⌝ }
         ensures same { λ r. ⌜ (isErr r ≡ true → now (self .exit) .stage ≡ now (self .entry) .stage) ⌝ }
         ensures memory { λ r. ⌜ (isErr r ≡ true → (r ≡ Err Full → ⊥) → now (memory .exit) ≡ now (memory .entry)) ⌝ }
@@ -93,7 +108,10 @@ impl<W: Kind> Request<W> {
         let settled = progress.cross(map, Marks::Only(source), memory)?;
         let listed = progress.count(source, memory);
         self.stage = Stage::Finished(progress);
-        Ok(Ending { routes: routes(listed), settled })
+        Ok(Ending {
+            routes: routes(listed),
+            settled,
+        })
     }
 
     // How long the list at the node is.

@@ -16,15 +16,20 @@ ghost use Rattle.requests.specs.declared.stages.Stage.the-variants.{Open};
 use crate::stages::Progress;
 use carriers::Map;
 use carriers::Refusal;
-use crossing::cross;
 use crossing::Marks;
+use crossing::cross;
 use histories::Run;
 use stepping::Label;
 use weights::Kind;
 
 impl<W: Kind> Progress<W> {
     // Settles the run of the map, keeps where it stands, and answers how many labels it settled.
-    pub fn cross<M: Map<W>>(&mut self, map: &M, marks: Marks, memory: &mut [Label<W>]) -> Result<usize, Refusal>
+    pub fn cross<M: Map<W>>(
+        &mut self,
+        map: &M,
+        marks: Marks,
+        memory: &mut [Label<W>],
+    ) -> Result<usize, Refusal>
         requires { ⌜ kept 15 (now self) ≡ true ⌝ ∗ ⌜ length (now memory) ≡ now self .memory ⌝ ∗ ⌜ M·Map .carrier (now map) .places ≤ 8192 ⌝ }
         ensures call { λ r. ⌜ did (W·Kind .means) (Open (now (self .exit))) (now (memory .exit)) r ≡ crossed (W·Kind .algebra) (progress-of (W·Kind .means) (now (self .entry))) (meanings (W·Kind .means) (now (memory .entry))) opened length (outcome (W·Kind .algebra) (progress-of (W·Kind .means) (now (self .entry))) (carrier-meant (W·Kind .means) (M·Map .carrier (now (map .entry)))) (marks-of marks (M·Map .carrier (now (map .entry)) .entry)) (meanings (W·Kind .means) (now (memory .entry)))) ⌝ }
         ensures count { λ r. ⌜ made r (λ n. now (self .exit) .runs .count ≡ now (self .entry) .runs .count + 1) ⌝ }
@@ -35,7 +40,10 @@ impl<W: Kind> Progress<W> {
         let scope = self.scope(marks);
         match cross(scope, map, memory) {
             Ok(settled) => {
-                self.runs.push(Run { start: scope.used, length: settled });
+                self.runs.push(Run {
+                    start: scope.used,
+                    length: settled,
+                });
                 Ok(settled)
             }
             Err(refusal) => Err(refusal),

@@ -40,7 +40,10 @@ fn item_at<W: Kind>(labels: &[Label<W>], first_key: usize, node: u16, k: usize) 
         let label = labels[i];
         if label.node == node && label.mark {
             if left == 0 {
-                return Some(Item { weight: label.weight, key: first_key + i });
+                return Some(Item {
+                    weight: label.weight,
+                    key: first_key + i,
+                });
             }
             left -= 1;
         }
@@ -51,7 +54,11 @@ fn item_at<W: Kind>(labels: &[Label<W>], first_key: usize, node: u16, k: usize) 
 pub fn routes(count: usize) -> Routes
     ensures { λ r. ⌜ r ≡ routes-of count ⌝ }
 {
-    if count == 0 { Routes::NoRoute } else { Routes::Listed(count) }
+    if count == 0 {
+        Routes::NoRoute
+    } else {
+        Routes::Listed(count)
+    }
 }
 
 impl<W: Kind> Progress<W> {

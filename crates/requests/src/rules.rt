@@ -48,7 +48,12 @@ impl<W: Kind> Progress<W> {
     }
 
     // Why a finish at the source is refused, if it is.
-    pub fn finish_refusal<M: Map<W>>(&self, map: &M, source: u16, memory: &[Label<W>]) -> Option<Refusal>
+    pub fn finish_refusal<M: Map<W>>(
+        &self,
+        map: &M,
+        source: u16,
+        memory: &[Label<W>],
+    ) -> Option<Refusal>
         ensures { λ r. ⌜ r ≡ refusal (finish-rules (progress-of (W·Kind .means) (now (self .entry))) (carrier-meant (W·Kind .means) (M·Map .carrier (now (map .entry)))) source (meanings (W·Kind .means) (now (memory .entry)))) ⌝ }
     {
         if memory.len() != self.memory {

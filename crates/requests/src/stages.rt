@@ -25,7 +25,13 @@ impl Runs {
     pub fn none() -> Runs
         ensures { λ r. ⌜ runs-of r ≡ [] ⌝ ∗ ⌜ r .count ≡ 0 ⌝ }
     {
-        Runs { table: [Run { start: 0, length: 0 }; 16], count: 0 }
+        Runs {
+            table: [Run {
+                start: 0,
+                length: 0,
+            }; 16],
+            count: 0,
+        }
     }
 
     pub fn count(&self) -> usize
@@ -60,7 +66,10 @@ impl Runs {
         ensures { λ r. ⌜ r ≡ latest (runs-of (now (self .entry))) ⌝ }
     {
         match self.latest() {
-            None => Run { start: 0, length: 0 },
+            None => Run {
+                start: 0,
+                length: 0,
+            },
             Some(run) => run,
         }
     }
@@ -83,10 +92,23 @@ impl<W: Kind> Progress<W> {
     {
         let bounds = self.bounds;
         match self.runs.latest() {
-            None => Scope { bounds, used: 0, before: Before::Destination(self.destination), marks },
+            None => Scope {
+                bounds,
+                used: 0,
+                before: Before::Destination(self.destination),
+                marks,
+            },
             Some(run) => {
-                let before = Before::Run { start: run.start, length: run.length };
-                Scope { bounds, used: run.start + run.length, before, marks }
+                let before = Before::Run {
+                    start: run.start,
+                    length: run.length,
+                };
+                Scope {
+                    bounds,
+                    used: run.start + run.length,
+                    before,
+                    marks,
+                }
             }
         }
     }

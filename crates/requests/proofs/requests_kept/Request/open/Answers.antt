@@ -28,9 +28,9 @@ returns-then-memory-gt65536 g c =
     let l : 65536 < length ls = omega (arith, length-map m (meant (k .means))) in
     record {
       call = ap (λ s. did (k .means) s m (Err Memory)) is
-        ∙ sym (open-refuses (k .algebra) b (c .args .destination) ls Memory (too-long (k .algebra) b ls l))
-        ∙ sym (ap (λ s. on-open (k .algebra) (stage-of (k .means) s) b (c .args .destination) ls) is);
-      same = λ e. (refl, refl)
+          ∙ sym (open-refuses (k .algebra) b (c .args .destination) ls Memory (too-long (k .algebra) b ls l))
+          ∙ sym (ap (λ s. on-open (k .algebra) (stage-of (k .means) s) b (c .args .destination) ls) is);
+      same = λ e. (refl, refl);
     }
 
 pub returns-then-not-may-bound : need.returns-then-not-may-bound
@@ -43,9 +43,9 @@ returns-then-not-may-bound g c =
     let l : length ls ≤ 65536 = omega (arith, length-map m (meant (k .means))) in
     record {
       call = ap (λ s. did (k .means) s m (Err Bound)) is
-        ∙ sym (open-refuses (k .algebra) b (c .args .destination) ls Bound (no-bound (k .algebra) b ls l (c .if-not-may-bound .ensures tt)))
-        ∙ sym (ap (λ s. on-open (k .algebra) (stage-of (k .means) s) b (c .args .destination) ls) is);
-      same = λ e. (refl, refl)
+          ∙ sym (open-refuses (k .algebra) b (c .args .destination) ls Bound (no-bound (k .algebra) b ls l (c .if-not-may-bound .ensures tt)))
+          ∙ sym (ap (λ s. on-open (k .algebra) (stage-of (k .means) s) b (c .args .destination) ls) is);
+      same = λ e. (refl, refl);
     }
 
 pub returns-else-not-may-bound : need.returns-else-not-may-bound
@@ -60,9 +60,9 @@ returns-else-not-may-bound g c =
     let blanked = c .blank-from .ensures .labels ∙ all-blank (length ls) (blank (k .algebra .neutral)) in
     record {
       call = ap (λ r. record { stage = opened (record { bounds = b; destination = c .args .destination; memory = length m; runs = r }); labels = meanings (k .means) (c .blank-from .last .memory); answer = Ok tt }) (c .none .ensures .0)
-        ∙ ap (λ n. record { stage = opened (record { bounds = b; destination = c .args .destination; memory = n; runs = [] }); labels = meanings (k .means) (c .blank-from .last .memory); answer = Ok tt }) long
-        ∙ ap (λ x. record { stage = opened (record { bounds = b; destination = c .args .destination; memory = length ls; runs = [] }); labels = x; answer = Ok tt }) blanked
-        ∙ sym (open-accepts (k .algebra) b (c .args .destination) ls (open-fits (k .algebra) b ls l (c .if-not-may-bound .ensures tt)))
-        ∙ sym (ap (λ s. on-open (k .algebra) (stage-of (k .means) s) b (c .args .destination) ls) is);
-      same = λ e. absurd (false≢true e)
+          ∙ ap (λ n. record { stage = opened (record { bounds = b; destination = c .args .destination; memory = n; runs = [] }); labels = meanings (k .means) (c .blank-from .last .memory); answer = Ok tt }) long
+          ∙ ap (λ x. record { stage = opened (record { bounds = b; destination = c .args .destination; memory = length ls; runs = [] }); labels = x; answer = Ok tt }) blanked
+          ∙ sym (open-accepts (k .algebra) b (c .args .destination) ls (open-fits (k .algebra) b ls l (c .if-not-may-bound .ensures tt)))
+          ∙ sym (ap (λ s. on-open (k .algebra) (stage-of (k .means) s) b (c .args .destination) ls) is);
+      same = λ e. absurd (false≢true e);
     }
