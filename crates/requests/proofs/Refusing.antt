@@ -6,12 +6,15 @@ use Prim.Native.Nat.{ℕ, zero, suc, _<_, _≤_}
 use native.Mathlib.Omega.{arith}
 use lib.Dec.{eqb, leb}
 use lib.ListN.{length}
+use Rattle.std.specs.declared.option.Option.{Option}
+use Rattle.std.specs.declared.option.Option.the-variants.{None, Some}
 use Rattle.std.proofs.shelf.Lists.{length-map}
 use Rattle.std.proofs.shelf.Tests.{cond-true, cond-false, not-from-true, not-from-false, eq-eqb, ne-eqb, le-leb, lt-leb}
+use Rattle.carriers.specs.declared.refusals.Refusal.{Refusal}
 use Rattle.stepping.specs.declared.Label.{Label}
 use Rattle.stepping.specs.Labels.{meant, meanings}
 use Rattle.histories.specs.declared.Run.{Run}
-use Rattle.histories.specs.Rules.{outside}
+use Rattle.histories.specs.Rules.{Rule, refusal, outside}
 use Rattle.histories.specs.Stages.{due}
 use Rattle.requests.specs.declared.stages.Runs.{Runs}
 use Rattle.requests.specs.Kept.{first-runs, runs-of}
@@ -22,6 +25,30 @@ here b x y e = sym (cond-true b x y e)
 
 pub later : {X : Type 0} (b : Bool) (x y z : X) → b ≡ false → z ≡ y → z ≡ cond b x y
 later b x y z e h = h ∙ sym (cond-false b x y e)
+
+-- what two rules answer, where more follow
+module _ (a b : Rule) (rules : List Rule) where
+  pub refused-by-two : (e : Refusal) → Some e ≡ refusal (a ∷ b ∷ []) → Some e ≡ refusal (a ∷ b ∷ rules)
+  refused-by-two e =
+      elim (a .0) as (λ s. Some e ≡ cond s (Some (a .1)) (refusal (b ∷ [])) → Some e ≡ cond s (Some (a .1)) (refusal (b ∷ rules))) [
+        | true ↦ λ h. h
+        | false ↦
+            elim (b .0) as (λ s. Some e ≡ cond s (Some (b .1)) None → Some e ≡ cond s (Some (b .1)) (refusal rules)) [
+              | true ↦ λ h. h
+              | false ↦ λ h. absurd (let z : _≡_ {A = ℕ} 0 1 = cc in omega arith)
+            ]
+      ]
+
+  pub past-two : None ≡ refusal (a ∷ b ∷ []) → refusal rules ≡ refusal (a ∷ b ∷ rules)
+  past-two =
+      elim (a .0) as (λ s. None ≡ cond s (Some (a .1)) (refusal (b ∷ [])) → refusal rules ≡ cond s (Some (a .1)) (refusal (b ∷ rules))) [
+        | true ↦ λ h. absurd (let z : _≡_ {A = ℕ} 0 1 = cc in omega arith)
+        | false ↦
+            elim (b .0) as (λ s. None ≡ cond s (Some (b .1)) None → refusal rules ≡ cond s (Some (b .1)) (refusal rules)) [
+              | true ↦ λ h. absurd (let z : _≡_ {A = ℕ} 0 1 = cc in omega arith)
+              | false ↦ λ h. refl
+            ]
+      ]
 
 -- after the first crossing the destination is settled
 pub settled-before : {V : Type 0} (b : V) (t m n k : ℕ) (runs : List Run) → (k ≡ 0 → ⊥)

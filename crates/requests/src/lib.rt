@@ -8,3 +8,6 @@ mod rules;
 mod stages;
 
 pub use requests_kept::Request;
+
+#[cfg(test)]
+mod tests;

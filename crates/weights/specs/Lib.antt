@@ -9,3 +9,4 @@ pub mod BitLaws
 pub mod ColourLaws
 pub mod Pairs
 pub mod PairLaws
+pub mod PairTexts

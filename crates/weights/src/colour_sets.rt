@@ -1,8 +1,11 @@
 // Colours: the risk groups that a route runs through, one bit each; fewer is better.
 
+ghost use Rattle.std.specs.Written.{decimal};
+ghost use Rattle.std.specs.declared.option.Option.the-variants.{Some};
 ghost use Rattle.weights.specs.ColourSets.{colour-sets};
 ghost use Rattle.weights.specs.ColourLaws.{colour-laws};
 use crate::Kind;
+use std::fmt;
 
 // A set of up to 32 risk groups, group i present where bit i is set.
 #[derive(Clone, Copy)]
@@ -37,5 +40,15 @@ pub impl Kind for Colours as ColoursKind {
 
     fn may_bound(self) -> bool {
         true
+    }
+}
+
+// The bits as one number, in decimal digits.
+pub impl fmt::Display for Colours as ColoursDisplay {
+    ghost shown = { λ c. Some (decimal (c .bits)) };
+
+    fn fmt<W: fmt::Write>(&self, f: &mut fmt::Formatter<W>) -> fmt::Result {
+        let bits = self.bits;
+        write!(f, "{bits}")
     }
 }

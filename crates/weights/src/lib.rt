@@ -9,17 +9,21 @@ mod sums;
 mod widths;
 
 pub use colour_sets::Colours;
+pub use colour_sets::ColoursDisplay;
 pub use colour_sets::ColoursKind;
 pub use pairs::Pair;
+pub use pairs::PairDisplay;
 pub use pairs::PairKind;
 pub use sums::Cents;
 pub use sums::Delay;
 pub use sums::Fee;
 pub use sums::Microseconds;
 pub use sums::Sum;
+pub use sums::SumDisplay;
 pub use sums::SumKind;
 pub use sums::ceiling;
 pub use widths::Width;
+pub use widths::WidthDisplay;
 pub use widths::WidthKind;
 
 // A kind of weight. Its meaning is an algebra that keeps every law of a weight kind; a value stands for

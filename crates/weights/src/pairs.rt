@@ -1,8 +1,10 @@
 // Pairs: two weights of any kinds side by side are again a weight.
 
 ghost use Rattle.weights.specs.Pairs.{pairs};
+ghost use Rattle.weights.specs.PairTexts.{spaced};
 ghost use Rattle.weights.specs.PairLaws.{pair-laws};
 use crate::Kind;
+use std::fmt;
 
 #[derive(Clone, Copy)]
 pub struct Pair<F, S> {
@@ -47,5 +49,16 @@ pub impl<F: Kind, S: Kind> Kind for Pair<F, S> as PairKind {
 
     fn may_bound(self) -> bool {
         self.first.may_bound() && self.second.may_bound()
+    }
+}
+
+// The first part, a space, and the second part.
+pub impl<F: fmt::Display, S: fmt::Display> fmt::Display for Pair<F, S> as PairDisplay {
+    ghost shown = { λ p. spaced (F·Display .shown (p .first)) (S·Display .shown (p .second)) };
+
+    fn fmt<W: fmt::Write>(&self, f: &mut fmt::Formatter<W>) -> fmt::Result {
+        let first = &self.first;
+        let second = &self.second;
+        write!(f, "{first} {second}")
     }
 }

@@ -2,10 +2,13 @@
 
 ghost use mathlib.Core.Path.{_≡_};
 ghost use Prim.Native.Nat.{_≤_, min};
+ghost use Rattle.std.specs.Written.{decimal};
+ghost use Rattle.std.specs.declared.option.Option.the-variants.{Some};
 ghost use Rattle.weights.specs.Capped.{cut};
 ghost use Rattle.weights.specs.Sums.{top, sums, Lawful-at-every-ceiling};
 ghost use Rattle.weights.specs.SumLaws.{sum-laws, top-from-one};
 use crate::Kind;
+use std::fmt;
 use std::marker::PhantomData;
 
 // The most that a sum amounts to. Every larger number stands for this one.
@@ -86,5 +89,15 @@ pub impl<U> Kind for Sum<U> as SumKind {
 
     fn may_bound(self) -> bool {
         self.amount() < CEILING
+    }
+}
+
+// How much it amounts to, in decimal digits.
+pub impl<U> fmt::Display for Sum<U> as SumDisplay {
+    ghost shown = { λ s. Some (decimal (min (s .number) top)) };
+
+    fn fmt<W: fmt::Write>(&self, f: &mut fmt::Formatter<W>) -> fmt::Result {
+        let amount = self.amount();
+        write!(f, "{amount}")
     }
 }
