@@ -71,7 +71,7 @@ fn travel<W: BookKind>(
 }
 
 // All the calls but those of item.
-pub fn make_calls<W: BookKind>(
+pub(crate) fn make_calls<W: BookKind>(
     request: &mut Request<W>,
     bounds: W,
     chain: &Chain,

@@ -62,7 +62,7 @@ fn blank_labels<W: Kind>(heap: Global, count: usize) -> Result<Vec<Label<W>>, Al
 }
 
 // The routes within the bounds, found in a memory of 1,024 labels.
-pub fn list_routes<W: BookKind + Display>(
+pub(crate) fn list_routes<W: BookKind + Display>(
     heap: Global,
     bounds: W,
     chain: &Chain,

@@ -18,7 +18,7 @@ use std::fmt::Display;
 use stepping::Label;
 use weights::Kind;
 
-pub fn refused(heap: Global, refusal: Refusal) -> Result<String, AllocError>
+pub(crate) fn refused(heap: Global, refusal: Refusal) -> Result<String, AllocError>
     ensures { λ r. ⌜ made r (λ s. string-bytes s ≡ refused-text refusal) ⌝ }
 {
     let number = refusal.number();
@@ -39,7 +39,7 @@ fn row<W: Kind + Display>(
 }
 
 // How many routes there are, and a line for each, as the request lists them at the node.
-pub fn rows<W: Kind + Display>(
+pub(crate) fn rows<W: Kind + Display>(
     heap: Global,
     count: usize,
     request: &Request<W>,

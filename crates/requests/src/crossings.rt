@@ -24,7 +24,7 @@ use weights::Kind;
 
 impl<W: Kind> Progress<W> {
     // Settles the run of the map, keeps where it stands, and answers how many labels it settled.
-    pub fn cross<M: Map<W>>(
+    pub(crate) fn cross<M: Map<W>>(
         &mut self,
         map: &M,
         marks: Marks,

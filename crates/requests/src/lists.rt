@@ -51,7 +51,7 @@ fn item_at<W: Kind>(labels: &[Label<W>], first_key: usize, node: u16, k: usize) 
     None
 }
 
-pub fn routes(count: usize) -> Routes
+pub(crate) fn routes(count: usize) -> Routes
     ensures { λ r. ⌜ r ≡ routes-of count ⌝ }
 {
     if count == 0 {
@@ -74,7 +74,7 @@ impl<W: Kind> Progress<W> {
     }
 
     // How long the list at the node is.
-    pub fn count(&self, node: u16, memory: &[Label<W>]) -> usize
+    pub(crate) fn count(&self, node: u16, memory: &[Label<W>]) -> usize
         requires { ⌜ now self .runs .count ≤ 16 ⌝ ∗ ⌜ used (runs-of (now self .runs)) ≤ length (now memory) ⌝ }
         ensures { λ r. ⌜ r ≡ length (listed (progress-of (W·Kind .means) (now (self .entry))) node (meanings (W·Kind .means) (now (memory .entry)))) ⌝ }
     {
@@ -82,7 +82,7 @@ impl<W: Kind> Progress<W> {
     }
 
     // The k-th of the list at the node.
-    pub fn item(&self, node: u16, k: usize, memory: &[Label<W>]) -> Option<Item<W>>
+    pub(crate) fn item(&self, node: u16, k: usize, memory: &[Label<W>]) -> Option<Item<W>>
         requires { ⌜ now self .runs .count ≤ 16 ⌝ ∗ ⌜ used (runs-of (now self .runs)) ≤ length (now memory) ⌝ }
         ensures { λ r. ⌜ mapped (item-meant (W·Kind .means)) r ≡ nth (listed (progress-of (W·Kind .means) (now (self .entry))) node (meanings (W·Kind .means) (now (memory .entry)))) k ⌝ }
     {

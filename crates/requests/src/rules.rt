@@ -43,7 +43,7 @@ impl<W: Kind> Progress<W> {
     }
 
     // Why a cross is refused, if it is.
-    pub fn cross_refusal<M: Map<W>>(&self, map: &M, memory: &[Label<W>]) -> Option<Refusal>
+    pub(crate) fn cross_refusal<M: Map<W>>(&self, map: &M, memory: &[Label<W>]) -> Option<Refusal>
         ensures { λ r. ⌜ r ≡ refusal (cross-rules (progress-of (W·Kind .means) (now (self .entry))) (carrier-meant (W·Kind .means) (M·Map .carrier (now (map .entry)))) (meanings (W·Kind .means) (now (memory .entry)))) ⌝ }
     {
         if let Some(refusal) = self.misfit(map, memory) {
@@ -59,7 +59,7 @@ impl<W: Kind> Progress<W> {
     }
 
     // Why a finish at the source is refused, if it is.
-    pub fn finish_refusal<M: Map<W>>(
+    pub(crate) fn finish_refusal<M: Map<W>>(
         &self,
         map: &M,
         source: u16,

@@ -22,7 +22,7 @@ pub struct Runs {
 }
 
 impl Runs {
-    pub fn none() -> Runs
+    pub(crate) fn none() -> Runs
         ensures { λ r. ⌜ runs-of r ≡ [] ⌝ ∗ ⌜ r .count ≡ 0 ⌝ }
     {
         Runs {
@@ -34,14 +34,14 @@ impl Runs {
         }
     }
 
-    pub fn count(&self) -> usize
+    pub(crate) fn count(&self) -> usize
         ensures { λ r. ⌜ r ≡ now (self .entry) .count ⌝ }
     {
         self.count
     }
 
     // One run more, where the table has room for it.
-    pub fn push(&mut self, run: Run)
+    pub(crate) fn push(&mut self, run: Run)
         requires { ⌜ now self .count < 16 ⌝ }
         ensures runs { λ _. ⌜ runs-of (now (self .exit)) ≡ run ∷ runs-of (now (self .entry)) ⌝ }
         ensures count { λ _. ⌜ now (self .exit) .count ≡ now (self .entry) .count + 1 ⌝ }
@@ -50,7 +50,7 @@ impl Runs {
         self.count += 1;
     }
 
-    pub fn latest(&self) -> Option<Run>
+    pub(crate) fn latest(&self) -> Option<Run>
         requires { ⌜ now self .count ≤ 16 ⌝ }
         ensures { λ r. ⌜ r ≡ latest-of (runs-of (now (self .entry))) ⌝ }
     {
@@ -61,7 +61,7 @@ impl Runs {
     }
 
     // The latest run; the empty run at 0 where there is none.
-    pub fn latest_or_empty(&self) -> Run
+    pub(crate) fn latest_or_empty(&self) -> Run
         requires { ⌜ now self .count ≤ 16 ⌝ }
         ensures { λ r. ⌜ r ≡ latest (runs-of (now (self .entry))) ⌝ }
     {
@@ -86,7 +86,7 @@ pub struct Progress<W> {
 
 impl<W: Kind> Progress<W> {
     // What the next crossing is told.
-    pub fn scope(&self, marks: Marks) -> Scope<W>
+    pub(crate) fn scope(&self, marks: Marks) -> Scope<W>
         requires { ⌜ now self .runs .count ≤ 16 ⌝ ∗ ⌜ used (runs-of (now self .runs)) ≤ 65536 ⌝ }
         ensures { λ r. ⌜ r ≡ scope-of (now (self .entry)) marks ⌝ }
     {
@@ -132,7 +132,7 @@ pub enum Call {
 
 impl<W: Kind> Stage<W> {
     // The progress, where the call is for this stage.
-    pub fn progress_for(&self, call: Call) -> Result<Progress<W>, Refusal>
+    pub(crate) fn progress_for(&self, call: Call) -> Result<Progress<W>, Refusal>
         ensures { λ r. ⌜ r ≡ progress-for (now (self .entry)) call ⌝ }
     {
         match (*self, call) {
