@@ -1,5 +1,7 @@
 // The account of a chain file, for a person to read.
 
+#![tactic(auto)]
+
 ghost use Rattle.std.specs.Prelude.{◌≡◌, Some};
 ghost use Rattle.account.specs.Texts.{text_of, account_text};
 

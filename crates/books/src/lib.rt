@@ -1,5 +1,7 @@
 // The reader of chain files and of the books in them. It borrows the bytes and copies nothing.
 
+#![tactic(auto)]
+
 mod book_map;
 mod bounds;
 mod chain_file;

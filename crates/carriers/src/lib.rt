@@ -1,5 +1,7 @@
 // Carriers: what is known of one carrier's network, and the refusals that every call and reader answers with.
 
+#![tactic(auto)]
+
 mod fences;
 mod lines;
 mod maps;

@@ -1,6 +1,8 @@
 // Crosses chains of carriers, alone and by requests, and prints each label, answer and list, as an account that a
 // person can follow.
 
+#![tactic(auto)]
+
 mod account;
 mod requested;
 mod worked;

@@ -1,5 +1,7 @@
 // Reads a chain file from standard input and prints an account of it, or its refusal.
 
+#![tactic(auto)]
+
 use account::Account;
 use std::io;
 use std::io::Read;

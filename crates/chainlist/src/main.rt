@@ -1,5 +1,7 @@
 // Reads a chain file from standard input and prints the list of its routes, or its refusal.
 
+#![tactic(auto)]
+
 use listing::listing;
 use std::io;
 use std::io::Read;

@@ -1,5 +1,7 @@
 // Crossing: the code that settles the labels of one carrier, in the memory that the caller lends.
 
+#![tactic(auto)]
+
 mod choosing;
 mod crossings;
 mod parts;

@@ -1,5 +1,7 @@
 // Histories: what each call of a request does, and what stands after every history of calls.
 
+#![tactic(auto)]
+
 ghost use Rattle.histories.specs.Promise.{Staged, Finished, FinishedAsTold, Underway, UnderwayAsTold, Unchanged};
 ghost use Rattle.histories.specs.Worked.{Worked};
 

@@ -1,6 +1,8 @@
 // Makes a long jumbled list of calls for the carriers of a chain file and for others, and prints each call, answer and
 // list, with every listed key expanded and summed again.
 
+#![tactic(auto)]
+
 mod calls;
 mod costs;
 mod draws;

@@ -1,5 +1,7 @@
 // The list of routes of a chain file, as text.
 
+#![tactic(auto)]
+
 ghost use Rattle.std.specs.Prelude.{◌≡◌, IfOk, string_bytes};
 ghost use Rattle.listing.specs.Listing.{listing_text};
 

@@ -1,5 +1,7 @@
 // Requests: a request for routes, which is opened, crosses carriers, finishes, and is asked.
 
+#![tactic(auto)]
+
 mod calls;
 mod crossings;
 mod expansion;

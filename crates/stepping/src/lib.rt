@@ -1,5 +1,7 @@
 // Stepping: the labels of a crossing, the rule that settles them one by one, and what a run of them says.
 
+#![tactic(auto)]
+
 ghost use Rattle.stepping.specs.Choice.{Choice};
 ghost use Rattle.stepping.specs.Domain.{PerDomain};
 ghost use Rattle.stepping.specs.Number.{Number};

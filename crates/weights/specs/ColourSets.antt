@@ -1,6 +1,6 @@
 -- Sets of colours, each colour a bit of a number: a join is the union, a subset is as good,
 -- the smaller number stands before, and every set may serve as a bound.
-use Rattle.std.specs.Prelude.{ℕ, true, ◌==◌, bit_and}
+use Rattle.std.specs.Prelude.{ℕ, true, ◌==◌, bit_and, ltb}
 use Rattle.std.specs.Int.Bits.{bit_or}
 use Rattle.weights.specs.Algebra.{Algebra}
 

@@ -1,10 +1,9 @@
 -- The laws of sums, at every ceiling from 1 on.
-use Rattle.std.specs.Prelude.{◌≡◌, ℕ, ◌+◌, ◌≤◌, min}
+use Rattle.std.specs.Prelude.{ℕ, ◌+◌, ◌≤◌, min}
 use Rattle.std.proofs.Common.{inl, inr, ⊎_elim, arith, lit≤, leb→le, le→leb, lt→ltb, ltb→lt}
 use Rattle.std.proofs.lemmas.Bool.{cases_order}
-use Rattle.weights.specs.Algebra.{Laws}
-use Rattle.weights.specs.Capped.{UpTo, same_amount, within}
-use Rattle.weights.specs.Sums.{top, sums, LawfulAtEveryCeiling}
+use Rattle.weights.specs.Capped.{same_amount, within}
+use Rattle.weights.specs.Sums.{top, LawfulAtEveryCeiling}
 
 pub top_from_one : 1 ≤ top
 top_from_one = lit≤ tt

@@ -1,5 +1,7 @@
 // Weight kinds: what a link costs or carries, how two weights along a route join, and which of two is better.
 
+#![tactic(auto)]
+
 ghost use Rattle.std.specs.Prelude.{◌≡◌};
 ghost use Rattle.weights.specs.Algebra.{Algebra, Laws};
 
