@@ -6,7 +6,7 @@ use Rattle.std.proofs.lemmas.Bool.{lt-ltb, cond-true}
 use Rattle.carriers.specs.declared.refusals.Refusal.{Refusal}
 use Rattle.carriers.specs.declared.refusals.Refusal.TheVariants.{Length, Field}
 use Rattle.books.specs.BookLayout.{own, book_size, book_fault, shape_fault, fields_sound}
-use Rattle.books.specs.ChainLayout.{Contents, Complete, contents, books_fault, books_in}
+use Rattle.books.specs.ChainLayout.{Complete, contents, books_fault, books_in}
 use Rattle.books.specs.Bytes.{byte_at}
 use Rattle.carriers.specs.Rules.{refusal}
 use Rattle.books.specs.Faults.{otherwise}

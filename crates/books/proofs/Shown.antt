@@ -2,7 +2,7 @@
 use Rattle.std.proofs.Common.{◌≡◌, ℕ, ◌<◌, Bool, true, false, cond, eqb, ltb, List, is_some, Some, None, refl, ap}
 use Rattle.std.specs.Option.{option_map}
 use Rattle.std.proofs.lemmas.Bool.{both_ways, and_parts, and_from, eq-eqb}
-use Rattle.books.specs.BookLayout.{node_count, link_count, entry_count, entry_at, link_start, link_at, link_of, link_sound, entry_sound, every, fields_sound}
+use Rattle.books.specs.BookLayout.{node_count, link_count, entry_count, entry_at, link_start, link_at, link_of, entry_sound, every, fields_sound}
 use Rattle.books.specs.BookCarrier.{is_entry, placed, ShowsAll}
 use Rattle.books.proofs.Every.{every_holds}
 use Rattle.books.proofs.Some.{some_passes}

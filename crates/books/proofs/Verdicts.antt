@@ -1,9 +1,10 @@
 -- What a verdict on bytes tells of the faults that it looked for.
-use Rattle.std.proofs.Common.{◌≡◌, ℕ, ◌<◌, ◌≤◌, true, false, ltb, List, length, take, drop, Some, None, Ok, Err, Option, Result, sym, refl, ap, ◌∙◌, arith, length-drop, length-take}
+use Rattle.std.proofs.Common.{◌≡◌, ℕ, ◌<◌, ◌≤◌, false, not, List, [], ◌∷◌, length, drop, Some, None, Ok, Err, Option, sym, refl, ap, ◌∙◌, arith, length-drop, length-take}
 use Rattle.std.proofs.lemmas.Bool.{lt-ltb, le-ltb, cond-true, cond-false}
 use Rattle.carriers.specs.declared.refusals.Refusal.{Refusal}
-use Rattle.carriers.specs.declared.refusals.Refusal.TheVariants.{Length}
-use Rattle.books.specs.BookLayout.{own, book_size}
+use Rattle.carriers.specs.declared.refusals.Refusal.TheVariants.{Length, Field}
+use Rattle.books.specs.BookLayout.{own, book_size, shape_fault, fields_sound, book_fault}
+use Rattle.carriers.specs.Rules.{refusal}
 use Rattle.books.specs.ChainLayout.{books_fault}
 use Rattle.books.specs.Faults.{judged, otherwise}
 
@@ -44,3 +45,7 @@ bytes_follow bs l =
 pub none_follow : (bs : List ℕ) → length bs ≤ length (own bs) → books_fault 0 (drop (book_size bs) bs) ≡ None
 none_follow bs l =
     cond-false _ _ _ (le-ltb 0 (length (drop (book_size bs) bs)) (omega (arith, length-take (book_size bs) bs, length-drop (book_size bs) bs)))
+
+-- a field that breaks its rule, where the shape is a book's
+pub unsound : (bs : List ℕ) (n : ℕ) → Ok n ≡ judged (shape_fault bs) (book_size bs) → fields_sound (own bs) ≡ false → Err Field ≡ judged (book_fault bs) (own bs)
+unsound bs n h f = ap (λ b. judged (refusal ((not b, Field) ∷ [])) (own bs)) (sym f) ∙ sym (passed_first (shape_fault bs) _ (book_size bs) n (own bs) h)

@@ -3,7 +3,7 @@
 --   u16_at bs i    the number in the two bytes from i on, the higher first
 --   u32_at bs i    the number in the four bytes from i on, the highest first
 --   marked bs a b c   bs begins with the bytes a, b and c
-use Rattle.std.specs.Prelude.{ℕ, ◌+◌, ◌*◌, Bool, ◌&&◌, List, slice_index}
+use Rattle.std.specs.Prelude.{ℕ, ◌+◌, ◌*◌, List, slice_index}
 
 abbrev pub byte_at : List ℕ → ℕ → ℕ
 byte_at bs i = slice_index bs i

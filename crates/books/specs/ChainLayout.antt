@@ -2,7 +2,7 @@
 --   books_fault n bs   why bs is not n books and no more, if it is not
 --   books_in n bs      the bytes of each of the n books that bs begins with
 --   chain_of bs        what the chain file bs says, or its first refusal
-use Rattle.std.specs.Prelude.{◌≡◌, ℕ, zero, suc, min, true, cond, not, ◌||◌, List, [], ◌∷◌, ◌++◌, length, take, drop, Some, Ok, Err, codes, Option, Result, ◌==◌, nat_lt}
+use Rattle.std.specs.Prelude.{◌≡◌, ℕ, zero, suc, min, true, cond, not, ◌||◌, List, [], ◌∷◌, ◌++◌, length, take, drop, Some, codes, Option, Result, ◌==◌, nat_lt}
 use Rattle.std.specs.List.{flat_map, slice_get}
 use Rattle.std.specs.Str.{bytes_eq}
 use Rattle.weights.specs.Sums.{top}

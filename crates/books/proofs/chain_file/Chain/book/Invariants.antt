@@ -7,4 +7,4 @@ use Rattle.books.proofs.chain_file.Chain.book.Given as goal
 abbrev pub invariant-loop-i : goal.invariant-loop-i
 invariant-loop-i l =
     slice_get (books_in l.self.carriers l.self.books.now) l.position
-    ≡ slice_get (books_in (l.self.carriers - l.-i) l.rest) (l.position - l.-i)
+    ≡ slice_get (books_in (l.self.carriers - l._i) l.rest) (l.position - l._i)

@@ -4,8 +4,8 @@ use Rattle.books.specs.BookLayout.{entry_at, entry_count}
 use Rattle.books.proofs.Some.{some_passes, some_fails}
 use Rattle.books.proofs.layout.Book.lists_entry.Goals as goal
 
-pub returns-then-u16-at-node : goal.returns-then-u16-at-node
-returns-then-u16-at-node c =
+pub returns-then-u16_at-node : goal.returns-then-u16_at-node
+returns-then-u16_at-node c =
     let b = c.args.self.now.bytes.now in
     let i = c.loop-i.i in
     let l : i < entry_count b = omega arith in
