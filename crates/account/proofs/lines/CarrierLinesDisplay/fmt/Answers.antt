@@ -5,7 +5,7 @@ use Rattle.books.specs.Told.{bytes_of, contents_of}
 use Rattle.account.specs.Texts.{carriers_text}
 use Rattle.account.proofs.CarrierTexts.{carriers_more, some_book}
 use Rattle.account.proofs.lines.CarrierLinesDisplay.fmt.Goals as goal
-use Rattle.account.proofs.lines.CarrierLinesDisplay.fmt.Goals.{in-Some+in-ok-write, in-default}
+use Rattle.account.proofs.lines.CarrierLinesDisplay.fmt.Goals.{in-Some+in_ok-write, in_default}
 
 pub loop-position-init : goal.loop-position-init
 loop-position-init g c p = record { wrote = writes_in_calls_nil g.W.Write.write_str_gives c.args.f.now.writer; plain = p }
@@ -18,13 +18,13 @@ loop-position-preserved g c p =
     let l : i < length books = omega arith in
     let before = c.loop-position.invariant p in
     elim c.match-book.branch [
-      | in-Some+in-ok-write w ↦
+      | in-Some+in_ok-write w ↦
           rw
-          w.f_is
+          w.f-is
           (has_written_of_eq took _ _ _ _
-          (ap (λ t. carriers_text 0 (take i books) ++ t) w.of_line.ensures ∙ carriers_more books i (bytes_of w.in-Some.book) l w.in-Some.ensures)
-          (has_written_append took _ _ _ _ _ before (w.in-ok-write.ensures.shows before.plain refl)))
-      | in-default w ↦ absurd (some_book books i l w.in-default.ensures)
+          (ap (λ t. carriers_text 0 (take i books) ++ t) w.of-line.ensures ∙ carriers_more books i (bytes_of w.in-Some.book) l w.in-Some.ensures)
+          (has_written_append took _ _ _ _ _ before (w.in_ok-write.ensures.writes before.plain refl)))
+      | in_default w ↦ absurd (some_book books i l w.in_default.ensures)
     ]
 
 pub returns-clause-writes : goal.returns-clause-writes
