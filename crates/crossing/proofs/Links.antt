@@ -1,5 +1,5 @@
 -- What a link of a map makes of labels is what the stepping rule's link makes of them.
-use Rattle.std.proofs.Common.{◌≡◌, ℕ, suc, Bool, true, false, cond, not, ◌&&◌, ◌||◌, eqb, List, [], ◌∷◌, Some, None, Option, sym, refl, ap, ◌∙◌, arith}
+use Rattle.std.proofs.Common.{◌≡◌, ℕ, suc, Bool, true, false, cond, not, ◌&&◌, ◌||◌, eqb, [], ◌∷◌, Some, None, Option, sym, refl, ap, ◌∙◌, arith}
 use Rattle.weights.specs.Algebra.{Algebra}
 use Rattle.carriers.specs.declared.Side.{Side}
 use Rattle.carriers.specs.Carrier.{Link, ends_of, weight_of, link_meant}

@@ -1,12 +1,12 @@
 -- One label more in a run, and its end.
-use Rattle.std.proofs.Common.{◌≡◌, ℕ, zero, suc, ◌+◌, ◌-◌, ◌<◌, ◌≤◌, List, [], ◌∷◌, ◌++◌, map, length, take, drop, set, Some, None, Option, sym, refl, ap, ◌∙◌, arith, length-drop, length-set}
+use Rattle.std.proofs.Common.{◌≡◌, ℕ, zero, suc, ◌+◌, ◌-◌, ◌<◌, ◌≤◌, List, [], ◌∷◌, ◌++◌, length, take, drop, set, Some, None, sym, refl, ap, ◌∙◌, arith, length-drop, length-set}
 use Rattle.std.proofs.lemmas.List.{map_push, take_more_set, take-set-le, drop-set-add}
 use Rattle.weights.specs.Algebra.{Algebra}
 use Rattle.carriers.specs.Carrier.{Carrier}
 use Rattle.stepping.specs.declared.Label.{Label}
 use Rattle.stepping.specs.Labels.{Labels, meant, meanings}
 use Rattle.stepping.specs.View.{View}
-use Rattle.stepping.specs.Crossing.{Outcome, done, full, first, continue, settle}
+use Rattle.stepping.specs.Crossing.{done, full, first, continue, settle}
 use Rattle.crossing.specs.declared.scopes.Before.{Before}
 use Rattle.crossing.specs.declared.scopes.Before.TheVariants.{Destination, Run}
 use Rattle.crossing.specs.declared.scopes.Scope.{Scope}

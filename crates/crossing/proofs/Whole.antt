@@ -1,13 +1,12 @@
 -- A whole run: what it begins with, what it is, and what it leaves in the memory.
-use Rattle.std.proofs.Common.{◌≡◌, ℕ, ◌+◌, ◌-◌, ◌<◌, ◌≤◌, true, cond, ltb, List, [], ◌∷◌, ◌++◌, map, length, take, drop, set, replicate, Some, None, Option, sym, refl, ap, ◌∙◌, arith, MatchOption}
+use Rattle.std.proofs.Common.{◌≡◌, ℕ, ◌+◌, ◌-◌, ◌<◌, ◌≤◌, List, [], ◌∷◌, ◌++◌, map, length, take, drop, set, replicate, Some, None, Option, sym, ap, ◌∙◌, arith, MatchOption}
 use Rattle.std.proofs.lemmas.List.{length-map, length-take, length-drop, take-append-drop, drop-drop, take-map, drop-map, map-append}
 use Rattle.std.proofs.lemmas.Bool.{lt-ltb, le-ltb, cond-true, cond-false}
 use Rattle.weights.specs.Algebra.{Algebra}
-use Rattle.carriers.specs.declared.refusals.Refusal.{Refusal}
 use Rattle.carriers.specs.Carrier.{Carrier}
 use Rattle.stepping.specs.declared.Label.{Label}
-use Rattle.stepping.specs.Labels.{Labels, meant, meanings, blank}
-use Rattle.stepping.specs.Crossing.{Outcome, done, full, arrival, beginning_at, settle}
+use Rattle.stepping.specs.Labels.{meant, meanings}
+use Rattle.stepping.specs.Crossing.{full, arrival, beginning_at, settle}
 use Rattle.crossing.specs.declared.scopes.Before.TheVariants.{Destination}
 use Rattle.crossing.specs.declared.scopes.Scope.{Scope}
 use Rattle.crossing.specs.Scopes.{view, before_labels, destination_of}

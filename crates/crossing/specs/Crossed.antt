@@ -3,13 +3,13 @@
 --   unfit s c m             why nothing is settled at all: more labels in use than there are, or too many places
 --   answer_of u o           the number settled, or the refusal
 --   memory_of A n ls u o    the memory ls after it: the run stands from the label n on, or every label from n on is blank
-use Rattle.std.specs.Prelude.{ℕ, ◌+◌, ◌-◌, cond, List, ◌++◌, length, replicate, Some, None, Ok, Err, Option, Result, nat_lt}
+use Rattle.std.specs.Prelude.{ℕ, ◌-◌, cond, List, length, Some, None, Ok, Err, Option, Result, nat_lt}
 use Rattle.weights.specs.Algebra.{Algebra}
 use Rattle.carriers.specs.declared.refusals.Refusal.{Refusal}
 use Rattle.carriers.specs.declared.refusals.Refusal.TheVariants.{Memory, Size, Full}
 use Rattle.carriers.specs.Carrier.{Carrier}
 use Rattle.stepping.specs.declared.Label.{Label}
-use Rattle.stepping.specs.Labels.{Labels, blank}
+use Rattle.stepping.specs.Labels.{Labels}
 use Rattle.stepping.specs.Memory.{written, cleared}
 use Rattle.stepping.specs.Crossing.{Outcome, done, full, crossing}
 use Rattle.crossing.specs.declared.scopes.Scope.{Scope}

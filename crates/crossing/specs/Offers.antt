@@ -4,7 +4,7 @@
 --   meets o v m           the link o meets a label at the node v, whose mark is m
 --   offered A f o k y     the label that the link o makes of the label y with the key k
 --   offers A f o k ys     what o makes of those of ys that it meets; the first of ys has the key k
-use Rattle.std.specs.Prelude.{ℕ, suc, Bool, true, false, cond, not, ◌&&◌, ◌||◌, [], ◌∷◌, Option, ◌==◌}
+use Rattle.std.specs.Prelude.{ℕ, suc, Bool, cond, not, ◌&&◌, ◌||◌, [], ◌∷◌, Option, ◌==◌}
 use Rattle.weights.specs.Algebra.{Algebra}
 use Rattle.stepping.specs.declared.Label.{Label}
 use Rattle.stepping.specs.Labels.{Labels}

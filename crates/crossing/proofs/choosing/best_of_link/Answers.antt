@@ -1,8 +1,7 @@
 use Rattle.std.proofs.Common.{◌≡◌, ◌+◌, map, get_or, drop, fold, sym, ap, ◌∙◌, arith}
 use Rattle.std.specs.Option.{option_map}
-use Rattle.stepping.specs.declared.Label.{Label}
 use Rattle.stepping.specs.Labels.{meant}
-use Rattle.crossing.specs.Offers.{meets, chosen, offers, offered}
+use Rattle.crossing.specs.Offers.{meets, chosen, offers}
 use Rattle.crossing.proofs.Items.{same_item}
 use Rattle.crossing.proofs.Steps.{offers_met, offers_passed, offers_none}
 use Rattle.crossing.proofs.choosing.best_of_link.Goals as goal
@@ -40,13 +39,13 @@ loop-i-preserved g c =
           ∙ offers_met k.algebra k.means o ys c.args.first_key i choose best x.result l x.is (sym w.if-meets.true ∙ test)
           ∙ ap (λ t. fold choose t rest)
           (sym
-          (ap (option_map (meant k.means)) w.best_is
+          (ap (option_map (meant k.means)) w.best-is
           ∙ w.better-best.ensures
           ∙ ap (λ t. choose best (record { node = o.tail; weight = t; link = o.place; next = c.args.first_key + i; mark = o.mark })) joined))
       | else-meets w ↦
           c.loop-i.invariant
           ∙ offers_passed k.algebra k.means o ys c.args.first_key i choose best x.result l x.is (sym w.if-meets.false ∙ test)
-          ∙ ap (λ t. fold choose (option_map (meant k.means) t) rest) (sym w.best_is)
+          ∙ ap (λ t. fold choose (option_map (meant k.means) t) rest) (sym w.best-is)
     ]
 
 pub returns : goal.returns

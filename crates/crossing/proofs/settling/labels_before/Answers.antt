@@ -1,4 +1,4 @@
-use Rattle.std.proofs.Common.{◌≡◌, ◌+◌, ◌^◌, ◌<◌, length, take, drop, sym, ap, ◌∙◌, arith, length-drop, length-take}
+use Rattle.std.proofs.Common.{◌≡◌, length, take, drop, sym, ap, ◌∙◌, arith, length-drop, length-take}
 use Rattle.crossing.specs.Scopes.{start_of, before_labels}
 use Rattle.crossing.proofs.settling.labels_before.Goals as goal
 

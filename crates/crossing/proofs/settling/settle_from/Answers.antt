@@ -1,4 +1,4 @@
-use Rattle.std.proofs.Common.{◌≡◌, ◌+◌, ◌≤◌, ap, ◌∙◌, arith}
+use Rattle.std.proofs.Common.{◌+◌, ◌≤◌, ◌∙◌, arith}
 use Rattle.std.proofs.lemmas.List.{take-set-le, drop-set-lt}
 use Rattle.crossing.proofs.Items.{drop_after}
 use Rattle.crossing.proofs.Runs.{settling_done, settling_full, settling_more}
@@ -40,6 +40,6 @@ returns g c =
     let m = c.loop-label.memory in
     let inv = c.loop-label.invariant in
     record {
-      run = (inv.4 ∙ settling_done k.algebra k.means scope carrier m c.loop-label.end c.in-default.ensures, inv.0, inv.1, inv.3);
+      run = (inv.4 ∙ settling_done k.algebra k.means scope carrier m c.loop-label.end c.in_default.ensures, inv.0, inv.1, inv.3);
       same = inv.2;
     }

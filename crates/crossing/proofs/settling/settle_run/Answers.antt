@@ -1,4 +1,4 @@
-use Rattle.std.proofs.Common.{◌≡◌, ℕ, ◌≤◌, length, drop, sym, ◌∙◌, arith}
+use Rattle.std.proofs.Common.{◌≡◌, ℕ, ◌≤◌, length, drop, ◌∙◌, arith}
 use Rattle.stepping.specs.Labels.{meanings}
 use Rattle.stepping.specs.Crossing.{done}
 use Rattle.crossing.specs.Crossed.{outcome}
@@ -13,7 +13,7 @@ returns-in-Some g c =
     let carrier = g.M.Map.carrier c.args.map.now in
     let m = c.args.memory.now in
     let p = c.begin.new.memory in
-    let q = c.settle-from.new.memory in
+    let q = c.settle_from.new.memory in
     let begun = c.in-Some.begun in
     let told = c.in-Some.ensures.run in
     let long : length p ≡ length m = c.begin.auto.memory in
@@ -22,9 +22,9 @@ returns-in-Some g c =
       run = cases_map
           (λ (end : ℕ). (settling k.algebra k.means s carrier p begun ≡ done (meanings k.means (between s.used end q))) × (begun ≤ end) × (end ≤ length p) × (drop end q ≡ drop end p))
           (λ (end : ℕ). (outcome k.algebra k.means s carrier m ≡ done (meanings k.means (between s.used end q))) × (s.used ≤ end) × (end ≤ length m) × (drop end q ≡ drop end m))
-          c.settle-from.result
+          c.settle_from.result
           (λ e. whole ∙ e)
           (λ end h. (whole ∙ h.0, omega arith, omega arith, h.3 ∙ drop_later p m begun end h.1 told.3))
-          c.settle-from.ensures.run;
-      same = c.settle-from.ensures.same ∙ c.begin.ensures.same;
+          c.settle_from.ensures.run;
+      same = c.settle_from.ensures.same ∙ c.begin.ensures.same;
     }

@@ -1,4 +1,4 @@
-use Rattle.std.proofs.Common.{◌≡◌, true, false, Some, fold, sym, refl, ap, ◌∙◌}
+use Rattle.std.proofs.Common.{true, false, Some, fold, sym, refl, ap, ◌∙◌}
 use Rattle.std.specs.Option.{option_map}
 use Rattle.carriers.specs.declared.Side.TheVariants.{Inside, Onward}
 use Rattle.carriers.specs.Carrier.{link_meant}
@@ -29,14 +29,14 @@ returns-in-Inside g c =
     let V = view k.algebra k.means c.args.scope.now carrier c.args.before.now in
     let run = meanings k.means c.args.run.now in
     let choose = chosen k.algebra (k.means c.args.scope.now.bounds) run in
-    let o : Offer g.row.W.Denot = record { place = c.args.place; tail = c.in-Some.tail; head = c.in-Some.head; weight = c.weight-weight.result; mark = c.is-marked-mark.result; marked_only = false } in
-    c.best-of-link.ensures
+    let o : Offer g.row.W.Denot = record { place = c.args.place; tail = c.in-Some.tail; head = c.in-Some.head; weight = c.weight-weight.result; mark = c.is_marked-mark.result; marked_only = false } in
+    c.best_of_link.ensures
     ∙ ap
     (fold choose (option_map (meant k.means) c.args.best))
     (of_present k.algebra k.means V run (carrier.at c.args.place) o k.algebra.neutral Inside
     (ap (λ s. Some (c.in-Some.tail, s, c.in-Some.head)) (sym c.in-Inside.is) ∙ c.in-Some.ensures)
     c.weight-weight.ensures
-    c.is-marked-mark.ensures
+    c.is_marked-mark.ensures
     (λ y. true) V.start run (λ y. any_passes y.mark) (λ l. refl))
 
 pub returns-in-Onward : goal.returns-in-Onward
@@ -48,13 +48,13 @@ returns-in-Onward g c =
     let before = meanings k.means c.args.before.now in
     let choose = chosen k.algebra (k.means c.args.scope.now.bounds) run in
     let best = option_map (meant k.means) c.args.best in
-    let o : Offer g.row.W.Denot = record { place = c.args.place; tail = c.in-Some.tail; head = c.in-Some.head; weight = c.weight-weight.result; mark = c.is-marked-mark.result; marked_only = true } in
-    c.best-of-link-in-Onward.ensures
+    let o : Offer g.row.W.Denot = record { place = c.args.place; tail = c.in-Some.tail; head = c.in-Some.head; weight = c.weight-weight.result; mark = c.is_marked-mark.result; marked_only = true } in
+    c.best_of_link-in-Onward.ensures
     ∙ ap (λ j. fold choose best (offers k.algebra k.means o j before)) c.start.ensures
     ∙ ap
     (fold choose best)
     (of_present k.algebra k.means V run (carrier.at c.args.place) o k.algebra.neutral Onward
     (ap (λ s. Some (c.in-Some.tail, s, c.in-Some.head)) (sym c.in-Onward.is) ∙ c.in-Some.ensures)
     c.weight-weight.ensures
-    c.is-marked-mark.ensures
+    c.is_marked-mark.ensures
     (λ y. y.mark) V.before_start before (λ y. mark_passes y.mark) (λ l. refl))
