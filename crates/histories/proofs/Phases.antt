@@ -9,7 +9,7 @@ use Rattle.histories.specs.Rules.{refusal, open_rules, cross_rules, finish_rules
 use Rattle.histories.specs.Runs.{used}
 use Rattle.histories.specs.Crossings.{outcome}
 use Rattle.histories.specs.Calls.{ending, on_open}
-use Rattle.histories.specs.Histories.{Call, to_open, to_cross, to_finish, to_withdraw, Answer, does, Log, History, new, over, own, other, Phase, when_idle, when_open, when_finished, phase_of, phase_told}
+use Rattle.histories.specs.Histories.{Call, to_open, to_cross, to_finish, to_withdraw, Answer, does, Log, History, new, over, own, other, when_open, when_finished, phase_of, phase_told}
 use Rattle.histories.specs.Promise.{Staged}
 use Rattle.histories.proofs.Turned.{ok_err, unless_cases, crossed_cases}
 use Rattle.histories.proofs.Histories.{same_stage}

@@ -13,7 +13,7 @@ use Rattle.histories.specs.declared.Routes.TheVariants.{NoRoute, Listed}
 use Rattle.histories.specs.Stages.{Progress, Stage, opened, finished}
 use Rattle.histories.specs.Calls.{routes_of}
 use Rattle.histories.specs.Histories.{Log, State, chain}
-use Rattle.histories.specs.Promise.{Query, Routed, Found, Promise, Finished, SoFar, Underway, Unchanged}
+use Rattle.histories.specs.Promise.{Query, Routed, Found, Promise, Finished, FinishedAsTold, SoFar, Underway, UnderwayAsTold, Unchanged}
 use Rattle.histories.proofs.Places.{nth_some}
 use Rattle.histories.proofs.Layers.{Layer, Entries, agrees, length_carriers}
 use Rattle.histories.proofs.Reached.{same_carrier}

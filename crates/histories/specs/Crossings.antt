@@ -5,11 +5,11 @@
 --   crossed A p m stage answer o  what is left and answered where the outcome is o: if the run ended, stage of the
 --                                 progress and answer of the run, with the run written after the labels in use; and
 --                                 if memory is full, every label that is not in use blank, and the rest as it was
-use Rattle.std.specs.Prelude.{ℕ, ◌+◌, ◌-◌, Bool, List, ◌∷◌, ◌++◌, length, take, drop, replicate, Ok}
+use Rattle.std.specs.Prelude.{ℕ, ◌-◌, Bool, ◌∷◌, length, Ok}
 use Rattle.weights.specs.Algebra.{Algebra}
 use Rattle.carriers.specs.Carrier.{Carrier}
 use Rattle.carriers.specs.declared.refusals.Refusal.TheVariants as refusals
-use Rattle.stepping.specs.Labels.{Labels, blank}
+use Rattle.stepping.specs.Labels.{Labels}
 pub use Rattle.stepping.specs.Memory.{written, blanks, cleared}
 use Rattle.stepping.specs.View.{View}
 use Rattle.stepping.specs.Crossing.{Outcome, done, full, crossing}

@@ -3,7 +3,7 @@
 --   outside n o             o is a node, and not below n
 --   open_rules and so on    the rules of each call, in the order of their refusals' numbers; the stage goes before
 --                           them all, and full and short come after
-use Rattle.std.specs.Prelude.{ℕ, Bool, false, cond, not, ◌||◌, List, [], ◌∷◌, length, Some, None, Option, ◌==◌, nat_le, nat_lt}
+use Rattle.std.specs.Prelude.{ℕ, Bool, false, not, ◌||◌, List, [], ◌∷◌, length, Some, None, Option, ◌==◌, nat_le, nat_lt}
 use Rattle.weights.specs.Algebra.{Algebra}
 use Rattle.carriers.specs.Carrier.{Carrier}
 pub use Rattle.carriers.specs.Rules.{Rule, refusal}
