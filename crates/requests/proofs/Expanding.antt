@@ -1,5 +1,5 @@
 -- What expand answers and leaves, case by case.
-use Rattle.std.proofs.Common.{◌≡◌, ℕ, suc, ◌<◌, ◌≤◌, cond, ltb, leb, List, ◌++◌, length, drop, Some, None, Ok, Err, Option, Result, sym, refl, ap, ◌∙◌, arith}
+use Rattle.std.proofs.Common.{◌≡◌, ℕ, suc, ◌<◌, ◌≤◌, List, ◌++◌, length, drop, Some, None, Ok, Err, Option, Result, sym, refl, ap, ◌∙◌, arith}
 use Rattle.std.specs.Option.{ok_or, option_map}
 use Rattle.std.proofs.lemmas.Bool.{lt-ltb, le-ltb, lt-leb, le-leb, cond-true, cond-false}
 use Rattle.carriers.specs.declared.refusals.Refusal.{Refusal}
@@ -9,7 +9,7 @@ use Rattle.stepping.specs.Labels.{meanings}
 use Rattle.histories.specs.declared.Hop.{Hop}
 use Rattle.histories.specs.Runs.{used}
 use Rattle.histories.specs.Rules.{refusal, unless, expand_rules}
-use Rattle.histories.specs.Expansion.{Expanded, follow, hops_of, into, on_expand}
+use Rattle.histories.specs.Expansion.{follow, hops_of, into, on_expand}
 use Rattle.requests.specs.declared.stages.Progress.{Progress}
 use Rattle.requests.specs.declared.stages.Stage.{Stage}
 use Rattle.requests.specs.declared.stages.Call.TheVariants.{Ask}

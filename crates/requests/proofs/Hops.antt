@@ -1,5 +1,5 @@
 -- Following the labels of a memory by the meaning of their weights, one label more.
-use Rattle.std.proofs.Common.{◌≡◌, ℕ, zero, suc, ◌+◌, ◌-◌, ◌<◌, ◌≤◌, List, [], ◌∷◌, ◌++◌, map, length, get_or, take, set, Some, None, Option, sym, refl, ap, ◌∙◌, append_assoc, append-nil, arith}
+use Rattle.std.proofs.Common.{◌≡◌, ℕ, suc, ◌+◌, ◌-◌, ◌<◌, ◌≤◌, List, [], ◌∷◌, ◌++◌, length, get_or, take, set, Some, None, Option, sym, refl, ap, ◌∙◌, append_assoc, append-nil, arith}
 use Rattle.std.specs.Option.{option_map}
 use Rattle.std.specs.List.{slice_get}
 use Rattle.std.proofs.lemmas.List.{length-map, get_or-map, take_more_set, take_all}
@@ -8,7 +8,6 @@ use Rattle.stepping.specs.declared.Label.{Label}
 use Rattle.stepping.specs.Labels.{meant, meanings, no_link}
 use Rattle.stepping.proofs.Places.{none_some, some_same, nth_below}
 use Rattle.histories.specs.declared.Run.{Run}
-use Rattle.histories.specs.declared.Hop.{Hop}
 use Rattle.histories.specs.Expansion.{hop_of, follow}
 use Rattle.histories.proofs.Followed.{follow_end, follow_on, follow_astray, follow_there, hop_first, hops_after}
 

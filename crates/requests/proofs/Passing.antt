@@ -1,5 +1,5 @@
 -- What holds of a call that no rule refuses, and of the stage that it is for.
-use Rattle.std.proofs.Common.{◌≡◌, ℕ, ◌<◌, ◌≤◌, Bool, true, false, cond, not, ◌||◌, eqb, ltb, leb, List, length, Some, None, Ok, Err, Option, sym, refl, ap, ◌∙◌, arith}
+use Rattle.std.proofs.Common.{◌≡◌, ℕ, ◌<◌, ◌≤◌, Bool, true, false, cond, not, ◌||◌, eqb, ltb, leb, List, length, Some, None, Ok, Option, refl, ap, arith}
 use Rattle.std.proofs.lemmas.Bool.{or_parts, ltb-false, leb-false, eqb-true, not-false}
 use Rattle.weights.specs.Algebra.{Algebra}
 use Rattle.carriers.specs.declared.refusals.Refusal.{Refusal}
@@ -14,7 +14,6 @@ use Rattle.histories.specs.Calls.{on_withdraw}
 use Rattle.requests.specs.declared.stages.Progress as requests
 use Rattle.requests.specs.declared.stages.Stage.{Stage}
 use Rattle.requests.specs.declared.stages.Stage.TheVariants.{Idle, Open, Finished}
-use Rattle.requests.specs.declared.stages.Call.{Call}
 use Rattle.requests.specs.declared.stages.Call.TheVariants.{Cross, Finish, Withdraw, Ask}
 use Rattle.requests.specs.Kept.{progress_of, stage_of, progress_for}
 

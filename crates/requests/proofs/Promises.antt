@@ -1,10 +1,8 @@
 -- A history of calls is, by meaning, a history of what the calls do.
-use Rattle.std.proofs.Common.{◌≡◌, ℕ, List, [], ◌∷◌, Ok, Err, sym, ap, ◌∙◌, subst}
+use Rattle.std.proofs.Common.{List, [], ◌∷◌, Ok, Err, sym, ap, ◌∙◌, subst}
 use Rattle.weights.specs.Algebra.{Algebra, Laws}
-use Rattle.carriers.specs.declared.refusals.Refusal.{Refusal}
 use Rattle.stepping.specs.declared.Label.{Label}
 use Rattle.stepping.specs.Labels.{meanings}
-use Rattle.histories.specs.Stages as stages
 use Rattle.histories.specs.Histories as histories
 use Rattle.histories.specs.Histories.{Call, to_open, does, Log, left, History}
 use Rattle.histories.proofs.Phases.{staged_theorem}

@@ -1,12 +1,11 @@
 -- A crossing sees what it is told by a request.
-use Rattle.std.proofs.Common.{◌≡◌, ℕ, ◌+◌, ◌-◌, ◌≤◌, List, [], ◌∷◌, map, length, take, drop, Some, None, Result, sym, refl, ap, ◌∙◌, arith}
+use Rattle.std.proofs.Common.{◌≡◌, ℕ, ◌+◌, ◌-◌, ◌≤◌, List, [], ◌∷◌, map, length, take, drop, None, Result, sym, ap, ◌∙◌, arith}
 use Rattle.std.proofs.lemmas.List.{length-map, drop-take, take-take, take-map, drop-map}
 use Rattle.weights.specs.Algebra.{Algebra}
 use Rattle.carriers.specs.Carrier.{Carrier, meant as carrier_meant}
 use Rattle.carriers.specs.declared.refusals.Refusal.{Refusal}
 use Rattle.stepping.specs.declared.Label.{Label}
 use Rattle.stepping.specs.Labels.{meant, meanings}
-use Rattle.stepping.specs.View.{View}
 use Rattle.stepping.specs.Crossing.{crossing}
 use Rattle.crossing.specs.declared.scopes.Marks.{Marks}
 use Rattle.crossing.specs.declared.scopes.Scope.{Scope}

@@ -1,4 +1,4 @@
-use Rattle.std.proofs.Common.{◌≡◌, suc, ◌+◌, ◌≤◌, map, length, drop, sym, ap, ◌∙◌, arith}
+use Rattle.std.proofs.Common.{◌≡◌, suc, ◌+◌, map, length, drop, ap, arith}
 use Rattle.stepping.specs.Labels.{meant}
 use Rattle.histories.specs.Lists.{items}
 use Rattle.requests.proofs.Listing.{listed_here, unmarked_here, elsewhere, none_left}

@@ -1,4 +1,4 @@
-use Rattle.std.proofs.Common.{◌≡◌, ℕ, ◌+◌, ◌≤◌, eqb, length, take, drop, Ok, Err, sym, refl, ap, ◌∙◌, arith, rules}
+use Rattle.std.proofs.Common.{◌≡◌, ◌+◌, ◌≤◌, eqb, length, take, drop, Ok, Err, sym, refl, ap, ◌∙◌, arith, rules}
 use Rattle.std.proofs.lemmas.List.{length-map}
 use Rattle.std.proofs.lemmas.Bool.{false≢true}
 use Rattle.carriers.specs.Carrier.{meant as carrier_meant}
@@ -17,34 +17,34 @@ use Rattle.requests.proofs.requests_kept.Request.finish.Goals as goal
 pub cross-requires : goal.cross-requires
 cross-requires g c =
     let f = g.W.Kind.means in
-    let p = c.in-ok-progress.progress in
+    let p = c.in_ok-progress.progress in
     let m = c.args.memory.now in
     let carrier = g.M.Map.carrier c.args.map.now in
-    let is = open_to_finish p c.args.self.now.stage c.in-ok-progress.ensures in
-    let passes = finish_passes (progress_of f p) (carrier_meant f carrier) (meanings f m) c.args.source c.in-default.ensures in
+    let is = open_to_finish p c.args.self.now.stage c.in_ok-progress.ensures in
+    let passes = finish_passes (progress_of f p) (carrier_meant f carrier) (meanings f m) c.args.source c.in_default.ensures in
     (sym (ap sound is) ∙ c.args.self.now.kept, (sym (length-map m (meant f)) ∙ passes.0, passes.1))
 
-pub returns-in-err-settled : goal.returns-in-err-settled
-returns-in-err-settled g c =
+pub returns-in_err-settled : goal.returns-in_err-settled
+returns-in_err-settled g c =
     let k = g.W.Kind in
     let f = k.means in
-    let p = c.in-ok-progress.progress in
+    let p = c.in_ok-progress.progress in
     let m = c.args.memory.now in
     let l = c.cross.new.memory in
     let v = c.args.source in
-    let e = c.in-err-settled.field-0.0 in
+    let e = c.in_err-settled.field-0.0 in
     let carrier = carrier_meant f (g.M.Map.carrier c.args.map.now) in
     let o = outcome k.algebra (progress_of f p) carrier (λ u. eqb u v) (meanings f m) in
-    let is = open_to_finish p c.args.self.now.stage c.in-ok-progress.ensures in
-    let told = c.in-err-settled.ensures in
+    let is = open_to_finish p c.args.self.now.stage c.in_ok-progress.ensures in
+    let told = c.in_err-settled.ensures in
     let q = progress_of f c.cross.new.self in
-    let r = c.from-residual-in-err-settled.result in
+    let r = c.from_residual-in_err-settled.result in
     let err : r ≡ Err e = search rules in
     record {
       call = ap (λ s. did f s l r) is
           ∙ ap (λ t. did f (Open p) l t) err
           ∙ full_same k.algebra (progress_of f p) (meanings f m) q (meanings f l) e stages.finished (ending v (used (runs_of p.runs))) o told.call
-          ∙ finishes k.algebra (progress_of f p) (meanings f m) v carrier c.in-default.ensures
+          ∙ finishes k.algebra (progress_of f p) (meanings f m) v carrier c.in_default.ensures
           ∙ sym (ap (λ s. on_finish k.algebra (stage_of f s) carrier v (meanings f m)) is);
       same = λ _. refl;
       memory = λ _ h. absurd (h (err ∙ ap Err (full_alone k.algebra (progress_of f p) (meanings f m) q (meanings f l) e o told.call)));
@@ -55,38 +55,38 @@ returns-in-err-settled g c =
 pub count-listed-requires : goal.count-listed-requires
 count-listed-requires g c =
     let f = g.W.Kind.means in
-    let p = c.in-ok-progress.progress in
+    let p = c.in_ok-progress.progress in
     let m = c.args.memory.now in
     let carrier = g.M.Map.carrier c.args.map.now in
-    let is = open_to_finish p c.args.self.now.stage c.in-ok-progress.ensures in
+    let is = open_to_finish p c.args.self.now.stage c.in_ok-progress.ensures in
     let kept = parts 15 p (sym (ap sound is) ∙ c.args.self.now.kept) in
-    let passes = finish_passes (progress_of f p) (carrier_meant f carrier) (meanings f m) c.args.source c.in-default.ensures in
+    let passes = finish_passes (progress_of f p) (carrier_meant f carrier) (meanings f m) c.args.source c.in_default.ensures in
     let long = sym (length-map m (meant f)) ∙ passes.0 in
-    let told = c.in-ok-settled.ensures in
+    let told = c.in_ok-settled.ensures in
     (omega (arith, told.count), omega (arith, told.room.0, told.room.1, c.cross.auto.memory))
 
 pub returns : goal.returns
 returns g c =
     let k = g.W.Kind in
     let f = k.means in
-    let p = c.in-ok-progress.progress in
+    let p = c.in_ok-progress.progress in
     let m = c.args.memory.now in
     let l = c.cross.new.memory in
     let v = c.args.source in
-    let n = c.in-ok-settled.settled in
+    let n = c.in_ok-settled.settled in
     let carrier = carrier_meant f (g.M.Map.carrier c.args.map.now) in
     let o = outcome k.algebra (progress_of f p) carrier (λ u. eqb u v) (meanings f m) in
-    let is = open_to_finish p c.args.self.now.stage c.in-ok-progress.ensures in
+    let is = open_to_finish p c.args.self.now.stage c.in_ok-progress.ensures in
     let kept = parts 15 p (sym (ap sound is) ∙ c.args.self.now.kept) in
-    let passes = finish_passes (progress_of f p) carrier (meanings f m) v c.in-default.ensures in
+    let passes = finish_passes (progress_of f p) carrier (meanings f m) v c.in_default.ensures in
     let within : used (runs_of p.runs) ≤ length (meanings f m) = omega (arith, passes.0) in
-    let told = c.in-ok-settled.ensures in
+    let told = c.in_ok-settled.ensures in
     let q = progress_of f c.cross.new.self in
     let counted = c.routes.ensures ∙ ap routes_of c.count-listed.ensures in
     record {
       call = ap (λ t. record { stage = stages.finished q; labels = meanings f l; answer = Ok (record { routes = t; settled = n }) }) counted
           ∙ finish_same k.algebra (progress_of f p) (meanings f m) v q (meanings f l) n o within told.call
-          ∙ finishes k.algebra (progress_of f p) (meanings f m) v carrier c.in-default.ensures
+          ∙ finishes k.algebra (progress_of f p) (meanings f m) v carrier c.in_default.ensures
           ∙ sym (ap (λ s. on_finish k.algebra (stage_of f s) carrier v (meanings f m)) is);
       same = λ e. absurd (false≢true e);
       memory = λ e. absurd (false≢true e);

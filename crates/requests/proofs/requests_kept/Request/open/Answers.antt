@@ -1,7 +1,6 @@
-use Rattle.std.proofs.Common.{◌≡◌, ◌<◌, ◌≤◌, [], length, Some, None, Ok, Err, Result, sym, refl, ap, ◌∙◌, arith}
+use Rattle.std.proofs.Common.{◌≡◌, ◌<◌, ◌≤◌, [], length, Ok, Err, sym, refl, ap, ◌∙◌, arith}
 use Rattle.std.proofs.lemmas.List.{length-map}
 use Rattle.std.proofs.lemmas.Bool.{false≢true}
-use Rattle.carriers.specs.declared.refusals.Refusal.{Refusal}
 use Rattle.carriers.specs.declared.refusals.Refusal.TheVariants.{Memory, Bound}
 use Rattle.stepping.specs.Labels.{meant, meanings, blank}
 use Rattle.histories.specs.Stages.{opened}
@@ -25,8 +24,8 @@ returns-then-memory-gt65536 g c =
       same = λ e. (refl, refl);
     }
 
-pub returns-then-not-may-bound : goal.returns-then-not-may-bound
-returns-then-not-may-bound g c =
+pub returns-then-not-may_bound : goal.returns-then-not-may_bound
+returns-then-not-may_bound g c =
     let k = g.W.Kind in
     let m = c.args.memory.now in
     let ls = meanings k.means m in
@@ -35,13 +34,13 @@ returns-then-not-may-bound g c =
     let l : length ls ≤ 65536 = omega (arith, length-map m (meant k.means)) in
     record {
       call = ap (λ s. did k.means s m (Err Bound)) is
-          ∙ sym (open_refuses k.algebra b c.args.destination ls Bound (no_bound k.algebra b ls l c.if-not-may-bound.ensures))
+          ∙ sym (open_refuses k.algebra b c.args.destination ls Bound (no_bound k.algebra b ls l c.if-not-may_bound.ensures))
           ∙ sym (ap (λ s. on_open k.algebra (stage_of k.means s) b c.args.destination ls) is);
       same = λ e. (refl, refl);
     }
 
-pub returns-else-not-may-bound : goal.returns-else-not-may-bound
-returns-else-not-may-bound g c =
+pub returns-else-not-may_bound : goal.returns-else-not-may_bound
+returns-else-not-may_bound g c =
     let k = g.W.Kind in
     let m = c.args.memory.now in
     let ls = meanings k.means m in
@@ -49,12 +48,12 @@ returns-else-not-may-bound g c =
     let is = c.in-Idle.is in
     let l : length ls ≤ 65536 = omega (arith, length-map m (meant k.means)) in
     let long : length m ≡ length ls = sym (length-map m (meant k.means)) in
-    let blanked = c.blank-from.ensures.labels ∙ all_blank (length ls) (blank k.algebra.neutral) in
+    let blanked = c.blank_from.ensures.labels ∙ all_blank (length ls) (blank k.algebra.neutral) in
     record {
-      call = ap (λ r. record { stage = opened (record { bounds = b; destination = c.args.destination; memory = length m; runs = r }); labels = meanings k.means c.blank-from.new.memory; answer = Ok tt }) c.none.ensures.0
-          ∙ ap (λ n. record { stage = opened (record { bounds = b; destination = c.args.destination; memory = n; runs = [] }); labels = meanings k.means c.blank-from.new.memory; answer = Ok tt }) long
+      call = ap (λ r. record { stage = opened (record { bounds = b; destination = c.args.destination; memory = length m; runs = r }); labels = meanings k.means c.blank_from.new.memory; answer = Ok tt }) c.none.ensures.0
+          ∙ ap (λ n. record { stage = opened (record { bounds = b; destination = c.args.destination; memory = n; runs = [] }); labels = meanings k.means c.blank_from.new.memory; answer = Ok tt }) long
           ∙ ap (λ x. record { stage = opened (record { bounds = b; destination = c.args.destination; memory = length ls; runs = [] }); labels = x; answer = Ok tt }) blanked
-          ∙ sym (open_accepts k.algebra b c.args.destination ls (open_fits k.algebra b ls l c.if-not-may-bound.ensures))
+          ∙ sym (open_accepts k.algebra b c.args.destination ls (open_fits k.algebra b ls l c.if-not-may_bound.ensures))
           ∙ sym (ap (λ s. on_open k.algebra (stage_of k.means s) b c.args.destination ls) is);
       same = λ e. absurd (false≢true e);
     }

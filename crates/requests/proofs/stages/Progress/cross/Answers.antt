@@ -1,10 +1,9 @@
-use Rattle.std.proofs.Common.{◌≡◌, ℕ, ◌+◌, ◌≤◌, ◌∷◌, length, take, drop, Ok, Err, sym, refl, ap, ◌∙◌, arith}
+use Rattle.std.proofs.Common.{◌≡◌, ◌+◌, ◌≤◌, ◌∷◌, length, take, drop, Ok, Err, sym, refl, ap, ◌∙◌, arith}
 use Rattle.std.proofs.lemmas.List.{length-map}
 use Rattle.carriers.specs.Carrier.{meant as carrier_meant}
 use Rattle.stepping.specs.Labels.{meant, meanings}
 use Rattle.crossing.specs.Scopes.{marks_of}
 use Rattle.histories.specs.Runs.{used}
-use Rattle.histories.specs.Stages as stages
 use Rattle.histories.specs.Crossings.{outcome, with_run}
 use Rattle.requests.specs.Kept.{runs_of, progress_of}
 use Rattle.requests.proofs.Keeping.{parts}

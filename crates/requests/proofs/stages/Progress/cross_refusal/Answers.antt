@@ -26,17 +26,17 @@ returns-then-count-ge15 g c =
     let m = meanings g.W.Kind.means c.args.memory.now in
     let carrier = g.M.Map.carrier c.args.map.now in
     let why : Some Chain ≡ refusal (rules p carrier) = here _ _ _ (has_most c.args.self.now.runs (omega arith)) in
-    why ∙ past_two (memory_rule p m) (size_rule carrier) (rules p carrier) c.in-default.ensures
+    why ∙ past_two (memory_rule p m) (size_rule carrier) (rules p carrier) c.in_default.ensures
 
-pub returns-then-is-outside : goal.returns-then-is-outside
-returns-then-is-outside g c =
+pub returns-then-is_outside : goal.returns-then-is_outside
+returns-then-is_outside g c =
     let p = progress_of g.W.Kind.means c.args.self.now in
     let m = meanings g.W.Kind.means c.args.memory.now in
     let carrier = g.M.Map.carrier c.args.map.now in
     let at = ap (λ n. outside n (due p)) c.node_count.ensures in
     let why : Some Node ≡ refusal (rules p carrier) =
-    later _ _ _ _ (has_fewer c.args.self.now.runs (omega arith)) (here _ _ _ (sym (c.if-is-outside.ensures ∙ at))) in
-    why ∙ past_two (memory_rule p m) (size_rule carrier) (rules p carrier) c.in-default.ensures
+    later _ _ _ _ (has_fewer c.args.self.now.runs (omega arith)) (here _ _ _ (sym (c.if-is_outside.ensures ∙ at))) in
+    why ∙ past_two (memory_rule p m) (size_rule carrier) (rules p carrier) c.in_default.ensures
 
 pub returns : goal.returns
 returns g c =
@@ -45,5 +45,5 @@ returns g c =
     let carrier = g.M.Map.carrier c.args.map.now in
     let at = ap (λ n. outside n (due p)) c.node_count.ensures in
     let why : None ≡ refusal (rules p carrier) =
-    later _ _ _ _ (has_fewer c.args.self.now.runs (omega arith)) (later _ _ _ _ (sym (c.if-is-outside.ensures ∙ at)) refl) in
-    why ∙ past_two (memory_rule p m) (size_rule carrier) (rules p carrier) c.in-default.ensures
+    later _ _ _ _ (has_fewer c.args.self.now.runs (omega arith)) (later _ _ _ _ (sym (c.if-is_outside.ensures ∙ at)) refl) in
+    why ∙ past_two (memory_rule p m) (size_rule carrier) (rules p carrier) c.in_default.ensures

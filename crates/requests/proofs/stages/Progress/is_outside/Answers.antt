@@ -1,4 +1,4 @@
-use Rattle.std.proofs.Common.{◌≡◌, sym, ◌∙◌}
+use Rattle.std.proofs.Common.{sym, ◌∙◌}
 use Rattle.std.proofs.lemmas.Bool.{ne_eqb}
 use Rattle.requests.proofs.Refusing.{settled_before}
 use Rattle.requests.proofs.stages.Progress.is_outside.Goals as goal

@@ -6,12 +6,12 @@ pub returns-then-memory-self : goal.returns-then-memory-self
 returns-then-memory-self g c =
     here _ _ _ (memory_is_not g.W.Kind.means c.args.memory.now c.args.self.now.memory c.if-memory-self.true)
 
-pub returns-then-is-off-size : goal.returns-then-is-off-size
-returns-then-is-off-size g c =
+pub returns-then-is_off_size : goal.returns-then-is_off_size
+returns-then-is_off_size g c =
     later _ _ _ _ (memory_is g.W.Kind.means c.args.memory.now c.args.self.now.memory c.if-memory-self.false)
-    (here _ _ _ (sym c.if-is-off-size.ensures))
+    (here _ _ _ (sym c.if-is_off_size.ensures))
 
 pub returns : goal.returns
 returns g c =
     later _ _ _ _ (memory_is g.W.Kind.means c.args.memory.now c.args.self.now.memory c.if-memory-self.false)
-    (later _ _ _ _ (sym c.if-is-off-size.ensures) refl)
+    (later _ _ _ _ (sym c.if-is_off_size.ensures) refl)

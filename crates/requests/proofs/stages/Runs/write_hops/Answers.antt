@@ -6,8 +6,8 @@ use Rattle.requests.specs.Kept.{runs_of}
 use Rattle.requests.proofs.Hops.{there, hop_here, hops_left, written_more, written_all}
 use Rattle.requests.proofs.stages.Runs.write_hops.Goals as goal
 
-pub offset-bounds-memory-at : goal.offset-bounds-memory-at
-offset-bounds-memory-at g c =
+pub offset_bounds-memory-at : goal.offset_bounds-memory-at
+offset_bounds-memory-at g c =
     omega (arith, there g.W.Kind.means (runs_of c.args.self.now) c.args.memory.now c.loop-hop.at _ c.loop-hop.invariant.1)
 
 pub bounds-memory-at : goal.bounds-memory-at

@@ -1,4 +1,4 @@
-use Rattle.std.proofs.Common.{◌≡◌, suc, ◌-◌, ◌≤◌, ◌++◌, map, length, take, Some}
+use Rattle.std.proofs.Common.{◌≡◌, suc, ◌-◌, ◌++◌, map, length, take, Some}
 use Rattle.std.specs.Option.{option_map}
 use Rattle.stepping.specs.Labels.{meant}
 use Rattle.histories.specs.Expansion.{follow}
