@@ -1,5 +1,5 @@
 -- A fence at the bounds takes no route away that is within them.
-use Rattle.std.proofs.Common.{◌≡◌, ℕ, suc, Bool, true, false, cond, T, List, map, length, Some, None, Option, sym, refl, ap, ◌∙◌, subst}
+use Rattle.std.proofs.Common.{◌≡◌, ℕ, suc, Bool, true, false, T, List, map, length, Some, None, Option, sym, refl, ap, ◌∙◌, subst}
 use Rattle.std.specs.Option.{option_map}
 use Rattle.std.proofs.lemmas.List.{length-map}
 use Rattle.std.proofs.lemmas.Bool.{cond-true}
@@ -10,7 +10,7 @@ use Rattle.carriers.specs.Present.{from_tested, from_mapped}
 use Rattle.stepping.proofs.Kept.{map_from, map_to}
 use Rattle.histories.specs.declared.Hop.{Hop}
 use Rattle.histories.specs.Routes.{LinkAt, Route, arrived, along, onto}
-use Rattle.histories.specs.Promise.{Query, Weighs, Routed, Front}
+use Rattle.histories.specs.Promise.{Query, Routed, Front}
 use Rattle.listing.specs.Truth.{Says, none, routes}
 
 T_true : (b : Bool) → T b → b ≡ true

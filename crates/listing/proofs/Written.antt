@@ -1,5 +1,5 @@
 -- The calls along a chain make a history, so what is written of them is true of its routes.
-use Rattle.std.proofs.Common.{◌≡◌, ℕ, zero, suc, ◌+◌, ◌<◌, ◌⊎◌, List, [], ◌∷◌, ◌++◌, map, length, Some, Ok, Err, Option, Result, sym, refl, ap, ◌∙◌, subst, inl, inr, append_assoc, append-nil, arith}
+use Rattle.std.proofs.Common.{◌≡◌, ℕ, suc, ◌+◌, ◌<◌, ◌⊎◌, List, [], ◌∷◌, ◌++◌, map, length, Some, Ok, Err, Option, sym, refl, ap, ◌∙◌, subst, inl, inr, append_assoc, append-nil, arith}
 use Rattle.std.specs.Option.{ok_or}
 use Rattle.std.specs.List.{slice_get}
 use Rattle.weights.specs.Algebra.{Algebra, Laws}
@@ -17,7 +17,7 @@ use Rattle.histories.specs.Stages.{Stage, idle, After, refused}
 use Rattle.histories.specs.Lists.{on_item}
 use Rattle.histories.specs.Calls.{on_open, on_cross, on_finish}
 use Rattle.histories.specs.Histories.{to_open, to_cross, to_finish, Log, State, left, History, new, over, own, last_open, chain, last_finish, when_finished, phase_told}
-use Rattle.histories.specs.Promise.{Query, Promise, Found, Routed, weights}
+use Rattle.histories.specs.Promise.{Query, Found, Routed, weights}
 use Rattle.histories.proofs.Turned.{ok_err}
 use Rattle.histories.proofs.Promise.{finished_as_told}
 use Rattle.books.specs.ChainLayout.{Contents}

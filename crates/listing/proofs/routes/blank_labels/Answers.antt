@@ -9,8 +9,8 @@ pub loop-i-preserved : goal.loop-i-preserved
 loop-i-preserved g c =
     let k = g.W.Kind in
     let f = k.means in
-    let i = c.loop-i.-i in
-    ap (meanings f) c.in-ok-push.ensures.items
+    let i = c.loop-i._i in
+    ap (meanings f) c.in_ok-push.ensures.items
     ∙ map-append (meant f) (vec_items c.loop-i.labels) _
     ∙ ap (λ ls. ls ++ blank (f c.neutral.result) ∷ []) c.loop-i.invariant
     ∙ ap (λ w. blanks k.algebra i ++ blank w ∷ []) c.neutral.ensures
@@ -18,5 +18,5 @@ loop-i-preserved g c =
 
 pub returns : goal.returns
 returns g c =
-    let i = c.loop-i.-i in
+    let i = c.loop-i._i in
     c.loop-i.invariant ∙ ap (blanks g.W.Kind.algebra) (let e : i ≡ c.args.count = omega arith in e)

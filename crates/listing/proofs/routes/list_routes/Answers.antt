@@ -11,12 +11,12 @@ unfolding listed_text
 returns g c t h =
     let k = g.W.Kind in
     IfOk-weaker
-    c.list-in.result
+    c.list_in.result
     _
     _
     (λ s q.
     q
     ∙ ap
     (chain_text k.algebra k.means g.W.BookKind.reads t c.args.bounds (contents_of c.args.chain.now))
-    (ap (meanings k.means) c.as-mut-slice.ensures.value ∙ c.in-ok-memory.ensures))
-    (c.list-in.ensures t h)
+    (ap (meanings k.means) c.as_mut_slice.ensures.value ∙ c.in_ok-memory.ensures))
+    (c.list_in.ensures t h)

@@ -12,8 +12,8 @@ loop-k-init g c t h =
     let n = c.args.count in
     let s = stage_of g.W.Kind.means c.args.request.now.stage in
     let m = meanings g.W.Kind.means c.args.memory.now in
-    ap (λ x. rows_text t s c.args.node m x 0 (string_bytes c.in-ok-out.out)) (let e : n - 0 ≡ n = omega arith in e)
-    ∙ ap (rows_text t s c.args.node m n 0) c.in-ok-out.ensures.ok
+    ap (λ x. rows_text t s c.args.node m x 0 (string_bytes c.in_ok-out.out)) (let e : n - 0 ≡ n = omega arith in e)
+    ∙ ap (rows_text t s c.args.node m n 0) c.in_ok-out.ensures.ok
 
 pub loop-k-preserved : goal.loop-k-preserved
 loop-k-preserved g c t h =
@@ -24,9 +24,9 @@ loop-k-preserved g c t h =
     let k = c.loop-k.k in
     let l : k < n = omega arith in
     let i = item_meant f c.in-Ok.item in
-    let line = c.as-str.ensures.value ∙ c.in-ok-line.ensures (t i.weight) (h c.in-Ok.item.weight) in
-    ap (rows_text t s c.args.node m (n - (k + 1)) (k + 1)) c.in-ok-push-str.ensures.bytes
-    ∙ row_on t s c.args.node m n k (string_bytes c.loop-k.out) c.as-str.result.now i l c.in-Ok.ensures line
+    let line = c.as_str.ensures.value ∙ c.in_ok-line-in-Ok.ensures (t i.weight) (h c.in-Ok.item.weight) in
+    ap (rows_text t s c.args.node m (n - (k + 1)) (k + 1)) c.in_ok-push_str-in-Ok.ensures.bytes
+    ∙ row_on t s c.args.node m n k (string_bytes c.loop-k.out) c.as_str.result.now i l c.in-Ok.ensures line
     ∙ c.loop-k.invariant t h
 
 pub returns-in-Err : goal.returns-in-Err
