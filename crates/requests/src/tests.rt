@@ -93,11 +93,17 @@ fn an_idle_request_is_only_opened(rt: HostRuntime) {
     );
     assert_eq!(rt; number(request.count(2, &memory)), 1);
     assert_eq!(rt; number(request.item(2, 0, &memory)), 1);
-    assert_eq!(rt; number(request.expand(0, &memory, &mut [])), 1);
-    assert_eq!(rt; number(request.withdraw(&mut memory)), 1);
     assert_eq!(rt; opened(&mut request, 1_000_000_000, &mut memory), 3);
     assert_eq!(rt; opened(&mut request, 8, &mut memory), 0);
     assert_eq!(rt; opened(&mut request, 8, &mut memory), 1);
+}
+
+#[test]
+fn an_idle_request_has_nothing_to_expand_or_withdraw(rt: HostRuntime) {
+    let mut memory = [label(); 4];
+    let mut request = Request::new();
+    assert_eq!(rt; number(request.expand(0, &memory, &mut [])), 1);
+    assert_eq!(rt; number(request.withdraw(&mut memory)), 1);
 }
 
 #[test]
