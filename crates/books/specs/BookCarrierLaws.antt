@@ -33,8 +33,8 @@ module _ (b : List ℕ) where
   head_sound n p h inside =
       let side = byte_at b (p + 2) in
       let zero = eqb-true side 0 (inside_zero (side == 0) inside) in
-      let after_IsTail = (and_parts (nat_lt (u16_at b p) n) _ h).1 in
-      let after_side = (and_parts (nat_le side 1) _ after_IsTail).1 in
+      let after_tail = (and_parts (nat_lt (u16_at b p) n) _ h).1 in
+      let after_side = (and_parts (nat_le side 1) _ after_tail).1 in
       let after_space = (and_parts (byte_at b (p + 3) == 0) _ after_side).1 in
       let head = (and_parts (side == 1 || nat_lt (u16_at b (p + 4)) n) _ after_space).0 in
       ⊎_elim
