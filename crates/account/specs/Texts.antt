@@ -4,16 +4,15 @@ use Rattle.std.specs.Prelude.{ℕ, suc, ◌-◌, min, List, [], ◌∷◌, ◌++
 use Rattle.weights.specs.Sums.{top}
 use Rattle.weights.specs.declared.sums.Sum.{Sum}
 use Rattle.carriers.specs.declared.refusals.Refusal.{Refusal}
-use Rattle.carriers.specs.declared.Side.TheVariants.{Inside, Onward}
+use Rattle.carriers.specs.declared.sides.Side.TheVariants.{Inside, Onward}
 use Rattle.carriers.specs.Refusals.{refusal_text}
 use Rattle.books.specs.BookLayout.{node_count, entry_count, link_count}
 use Rattle.books.specs.ChainLayout.{Contents, chain_of}
 use Rattle.books.specs.Sides.{links_on}
-use Rattle.books.specs.Told.{contents_of}
+use Rattle.books.specs.Told.{told_chain}
 use Rattle.books.specs.declared.bounds.Bounds.{Bounds}
 use Rattle.books.specs.declared.bounds.Bounds.TheVariants.{Delay, DelayFee, All}
 use Rattle.account.specs.declared.Account.{Account}
-use Rattle.account.specs.declared.Account.TheVariants.{Accepted, Refused}
 use Rattle.account.specs.declared.lines.Heading.{Heading}
 
 abbrev pub amount_text : {U : Type 0} → Sum U → List ℕ
@@ -87,5 +86,4 @@ account_text bs = verdict_text (chain_of bs)
 
 -- what an account writes
 abbrev pub text_of : Account → List ℕ
-text_of (Accepted c) = chain_text (contents_of c)
-text_of (Refused r) = refused_text r
+text_of a = verdict_text (told_chain a.verdict)

@@ -14,18 +14,17 @@ mod lines;
 
 // What a chain file says, or why it is refused.
 #[derive(Clone, Copy)]
-pub enum Account<'a> {
-    Accepted(Chain<'a>),
-    Refused(Refusal),
+pub struct Account<'a> {
+    verdict: Result<Chain<'a>, Refusal>,
 }
 
 impl<'a> Account<'a> {
+    // A function and no `From`, so that it takes the literal of a byte string as it is.
     pub fn of(bytes: &'a [u8]) -> Account<'a>
         ensures { text_of result ≡ account_text bytes.now }
     {
-        match Chain::read(bytes) {
-            Ok(chain) => Account::Accepted(chain),
-            Err(refusal) => Account::Refused(refusal),
+        Account {
+            verdict: Chain::read(bytes),
         }
     }
 }
@@ -34,13 +33,14 @@ impl fmt::Display for Account<'_> {
     ghost output = { λ a. Some (text_of a) };
 
     fn fmt<W: fmt::Write>(&self, f: &mut fmt::Formatter<W>) -> fmt::Result {
-        match self {
-            Account::Accepted(chain) => {
-                let heading = Heading::of(chain);
-                let lines = CarrierLines { chain: *chain };
-                write!(f, "{heading}{lines}")
-            }
-            Account::Refused(refusal) => write!(f, "refused {refusal}\n"),
+        match &self.verdict {
+            Ok(chain) => write!(
+                f,
+                "{}{}",
+                Heading::from(chain),
+                CarrierLines { chain: *chain }
+            ),
+            Err(refusal) => write!(f, "refused {refusal}\n"),
         }
     }
 }

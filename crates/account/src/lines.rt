@@ -18,10 +18,10 @@ pub struct Heading {
     source: u16,
 }
 
-impl Heading {
-    pub fn of(chain: &Chain) -> Heading
-        ensures { heading_of result ≡ heading_text (contents_of chain.now) }
-    {
+impl From<&Chain<'_>> for Heading {
+    ghost from_gives = { λ chain h. heading_of h ≡ heading_text (contents_of chain.now) };
+
+    fn from(chain: &Chain) -> Heading {
         Heading {
             bounds: chain.bounds(),
             carriers: chain.carrier_count(),
@@ -35,20 +35,20 @@ impl fmt::Display for Heading {
     ghost output = { λ h. Some (heading_of h) };
 
     fn fmt<W: fmt::Write>(&self, f: &mut fmt::Formatter<W>) -> fmt::Result {
-        let selection = selection_name(self.bounds);
-        let carriers = self.carriers;
-        let destination = self.destination;
-        let source = self.source;
-        let last = carriers.saturating_sub(1);
-        let limits = Limits {
-            bounds: self.bounds,
-        };
-        write!(f, "selection: {selection}\ncarriers: {carriers}\n")?;
         write!(
             f,
-            "destination: node {destination} of carrier 0\nsource: node {source} of carrier {last}\n"
+            "selection: {}\ncarriers: {}\n",
+            selection_name(self.bounds),
+            self.carriers
         )?;
-        write!(f, "bounds: {limits}\n")
+        write!(
+            f,
+            "destination: node {} of carrier 0\nsource: node {} of carrier {}\n",
+            self.destination,
+            self.source,
+            self.carriers.saturating_sub(1)
+        )?;
+        write!(f, "bounds: {}\n", Limits(self.bounds))
     }
 }
 
@@ -62,36 +62,29 @@ fn selection_name(bounds: Bounds) -> &'static str
     }
 }
 
-// The selected bounds by name.
+// The selected bounds by name. It wraps them, since a type of another crate is given its text there.
 #[derive(Clone, Copy)]
-struct Limits {
-    bounds: Bounds,
-}
+struct Limits(Bounds);
 
 impl fmt::Display for Limits {
-    ghost output = { λ l. Some (limits_text l.bounds) };
+    ghost output = { λ l. Some (limits_text l.0) };
 
     fn fmt<W: fmt::Write>(&self, f: &mut fmt::Formatter<W>) -> fmt::Result {
-        match self.bounds {
-            Bounds::Delay(bound) => {
-                let delay = bound.amount();
-                write!(f, "delay {delay} microseconds")
-            }
-            Bounds::DelayFee(bound) => {
-                let delay = bound.first.amount();
-                let fee = bound.second.amount();
-                write!(f, "delay {delay} microseconds, fee {fee} cents")
-            }
-            Bounds::All(bound) => {
-                let delay = bound.first.amount();
-                let fee = bound.second.first.amount();
-                let width = bound.second.second.first.mbits;
-                let colours = bound.second.second.second.bits;
-                write!(
-                    f,
-                    "delay {delay} microseconds, fee {fee} cents, width {width} Mbit/s, colours {colours}"
-                )
-            }
+        match self.0 {
+            Bounds::Delay(delay) => write!(f, "delay {delay} microseconds"),
+            Bounds::DelayFee(bound) => write!(
+                f,
+                "delay {} microseconds, fee {} cents",
+                bound.first, bound.second
+            ),
+            Bounds::All(bound) => write!(
+                f,
+                "delay {} microseconds, fee {} cents, width {} Mbit/s, colours {}",
+                bound.first,
+                bound.second.first,
+                bound.second.second.first.mbits,
+                bound.second.second.second
+            ),
         }
     }
 }
@@ -108,6 +101,7 @@ struct CarrierLine {
 }
 
 impl CarrierLine {
+    // A function and no `From`, since two values make a line.
     fn of(position: usize, book: &Book) -> CarrierLine
         ensures { line_text result ≡ carrier_text position (bytes_of book.now) }
     {
@@ -126,15 +120,10 @@ impl fmt::Display for CarrierLine {
     ghost output = { λ l. Some (line_text l) };
 
     fn fmt<W: fmt::Write>(&self, f: &mut fmt::Formatter<W>) -> fmt::Result {
-        let position = self.position;
-        let nodes = self.nodes;
-        let entries = self.entries;
-        let links = self.links;
-        let inside = self.inside;
-        let onward = self.onward;
         write!(
             f,
-            "carrier {position}: nodes {nodes}, entries {entries}, links {links} (inside {inside}, onward {onward})\n"
+            "carrier {}: nodes {}, entries {}, links {} (inside {}, onward {})\n",
+            self.position, self.nodes, self.entries, self.links, self.inside, self.onward
         )
     }
 }
@@ -149,11 +138,8 @@ impl fmt::Display for CarrierLines<'_> {
     ghost output = { λ c. Some (carriers_text 0 (contents_of c.chain).books) };
 
     fn fmt<W: fmt::Write>(&self, f: &mut fmt::Formatter<W>) -> fmt::Result {
-        for position in 0..self.chain.carrier_count() {
-            if let Some(book) = self.chain.book(position) {
-                let line = CarrierLine::of(position, &book);
-                write!(f, "{line}")?;
-            }
+        for (position, book) in self.chain.books().enumerate() {
+            write!(f, "{}", CarrierLine::of(position, &book))?;
         }
         Ok(())
     }

@@ -1,29 +1,14 @@
 -- Where bytes are so many books and no more, the books are all of the bytes, and their fields are sound.
-use Rattle.std.proofs.Common.{◌≡◌, ℕ, zero, suc, Bool, true, false, not, List, [], ◌∷◌, ◌++◌, length, take, drop, Some, None, Option, sym, refl, ap, ◌∙◌, subst, arith}
+use Rattle.std.proofs.Common.{◌≡◌, ℕ, zero, suc, true, List, [], ◌∷◌, ◌++◌, length, take, drop, Some, None, sym, refl, ap, ◌∙◌, subst, arith}
 use Rattle.std.specs.List.{flat_map, slice_get}
 use Rattle.std.proofs.lemmas.List.{take-append-drop}
 use Rattle.std.proofs.lemmas.Bool.{lt-ltb, cond-true}
-use Rattle.carriers.specs.declared.refusals.Refusal.{Refusal}
-use Rattle.carriers.specs.declared.refusals.Refusal.TheVariants.{Length, Field}
+use Rattle.carriers.specs.declared.refusals.Refusal.TheVariants.{Length}
 use Rattle.books.specs.BookLayout.{own, book_size, book_fault, shape_fault, fields_sound}
 use Rattle.books.specs.ChainLayout.{Complete, contents, books_fault, books_in}
 use Rattle.books.specs.Bytes.{byte_at}
-use Rattle.carriers.specs.Rules.{refusal}
-use Rattle.books.specs.Faults.{otherwise}
 use Rattle.books.proofs.Shown.{shows_all}
-
--- no fault of two: none of the first, and none of the second
-neither_first : (o p : Option Refusal) → otherwise o p ≡ None → o ≡ None
-neither_first None p e = refl
-neither_first (Some r) p e = absurd (let z : ◌≡◌ {A = ℕ} 0 1 = cc in omega arith)
-
-neither_second : (o p : Option Refusal) → otherwise o p ≡ None → p ≡ None
-neither_second None p e = e
-neither_second (Some r) p e = absurd (let z : ◌≡◌ {A = ℕ} 0 1 = cc in omega arith)
-
-fault_free : (b : Bool) → refusal ((not b, Field) ∷ []) ≡ None → b ≡ true
-fault_free true e = refl
-fault_free false e = absurd (let z : ◌≡◌ {A = ℕ} 0 1 = cc in omega arith)
+use Rattle.books.proofs.Verdicts.{neither_first, neither_second, fault_free}
 
 no_bytes : (bs : List ℕ) → books_fault 0 bs ≡ None → bs ≡ []
 no_bytes [] e = refl

@@ -1,7 +1,8 @@
-pub mod Every
-pub mod Some
+pub mod Made
+pub mod Below
+pub mod Starts
 pub mod Verdicts
+pub mod Own
 pub mod Walks
-pub mod Sides
 pub mod Shown
 pub mod Complete

@@ -1,12 +1,13 @@
 -- What a verdict on bytes tells of the faults that it looked for.
-use Rattle.std.proofs.Common.{◌≡◌, ℕ, ◌<◌, ◌≤◌, false, not, List, [], ◌∷◌, length, drop, Some, None, Ok, Err, Option, sym, refl, ap, ◌∙◌, arith, length-drop, length-take}
+use Rattle.std.proofs.Common.{◌≡◌, ℕ, ◌<◌, ◌≤◌, Bool, true, false, not, List, [], ◌∷◌, length, drop, Some, None, Ok, Err, Option, sym, refl, ap, ◌∙◌, arith, length-drop}
 use Rattle.std.proofs.lemmas.Bool.{lt-ltb, le-ltb, cond-true, cond-false}
 use Rattle.carriers.specs.declared.refusals.Refusal.{Refusal}
 use Rattle.carriers.specs.declared.refusals.Refusal.TheVariants.{Length, Field}
-use Rattle.books.specs.BookLayout.{own, book_size, shape_fault, fields_sound, book_fault}
+use Rattle.books.specs.BookLayout.{book_size}
 use Rattle.carriers.specs.Rules.{refusal}
 use Rattle.books.specs.ChainLayout.{books_fault}
-use Rattle.books.specs.Faults.{judged, otherwise}
+use Rattle.carriers.specs.Rules.{judged}
+use Rattle.books.specs.Faults.{otherwise}
 
 -- a refusal by the first rules is the refusal
 pub refused_first : {X Y : Type 0} (o p : Option Refusal) (x : X) (y : Y) (e : Refusal) → Err e ≡ judged o x → Err e ≡ judged (otherwise o p) y
@@ -38,14 +39,32 @@ pub passed_both : {X Y Z : Type 0} (o p : Option Refusal) (x z : X) (w v : Z) (y
 passed_both o p x z w v y h k = ap (λ q. judged q y) (sym (passed_fault p w v k)) ∙ sym (passed_first o p x z y h)
 
 -- bytes that follow the book at the front, and none
-pub bytes_follow : (bs : List ℕ) → length (own bs) < length bs → books_fault 0 (drop (book_size bs) bs) ≡ Some Length
+pub bytes_follow : (bs : List ℕ) → book_size bs < length bs → books_fault 0 (drop (book_size bs) bs) ≡ Some Length
 bytes_follow bs l =
-    cond-true _ _ _ (lt-ltb 0 (length (drop (book_size bs) bs)) (omega (arith, length-take (book_size bs) bs, length-drop (book_size bs) bs)))
+    cond-true _ _ _ (lt-ltb 0 (length (drop (book_size bs) bs)) (omega (arith, length-drop (book_size bs) bs)))
 
-pub none_follow : (bs : List ℕ) → length bs ≤ length (own bs) → books_fault 0 (drop (book_size bs) bs) ≡ None
+pub none_follow : (bs : List ℕ) → length bs ≤ book_size bs → books_fault 0 (drop (book_size bs) bs) ≡ None
 none_follow bs l =
-    cond-false _ _ _ (le-ltb 0 (length (drop (book_size bs) bs)) (omega (arith, length-take (book_size bs) bs, length-drop (book_size bs) bs)))
+    cond-false _ _ _ (le-ltb 0 (length (drop (book_size bs) bs)) (omega (arith, length-drop (book_size bs) bs)))
 
--- a field that breaks its rule, where the shape is a book's
-pub unsound : (bs : List ℕ) (n : ℕ) → Ok n ≡ judged (shape_fault bs) (book_size bs) → fields_sound (own bs) ≡ false → Err Field ≡ judged (book_fault bs) (own bs)
-unsound bs n h f = ap (λ b. judged (refusal ((not b, Field) ∷ [])) (own bs)) (sym f) ∙ sym (passed_first (shape_fault bs) _ (book_size bs) n (own bs) h)
+-- no fault of two: none of the first, and none of the second
+pub neither_first : (o p : Option Refusal) → otherwise o p ≡ None → o ≡ None
+neither_first None p e = refl
+neither_first (Some r) p e = absurd (let z : ◌≡◌ {A = ℕ} 0 1 = cc in omega arith)
+
+pub neither_second : (o p : Option Refusal) → otherwise o p ≡ None → p ≡ None
+neither_second None p e = e
+neither_second (Some r) p e = absurd (let z : ◌≡◌ {A = ℕ} 0 1 = cc in omega arith)
+
+pub fault_free : (b : Bool) → refusal ((not b, Field) ∷ []) ≡ None → b ≡ true
+fault_free true e = refl
+fault_free false e = absurd (let z : ◌≡◌ {A = ℕ} 0 1 = cc in omega arith)
+
+-- a verdict by one rule: the rule is broken, or it is kept
+pub broken : {X : Type 0} (t : Bool) (q e : Refusal) (x : X) → Err e ≡ judged (refusal ((t, q) ∷ [])) x → (t ≡ true) × (e ≡ q)
+broken true q e x h = (refl, cc)
+broken false q e x h = absurd (let z : ◌≡◌ {A = ℕ} 0 1 = cc in omega arith)
+
+pub kept : {X : Type 0} (t : Bool) (q : Refusal) (x z : X) → Ok z ≡ judged (refusal ((t, q) ∷ [])) x → (t ≡ false) × (z ≡ x)
+kept false q x z h = (refl, cc)
+kept true q x z h = absurd (let y : ◌≡◌ {A = ℕ} 0 1 = cc in omega arith)

@@ -1,24 +1,20 @@
 -- The carrier that a book's bytes tell. The weight of a link is the row of its record's columns, and a kind reads
 -- its weights from there.
---   some p n          the test p holds of some number below n
 --   lists_entry b v   one of the entries of the book b is v
 --   is_entry b v      v is a node of the book b and one of its entries
 --   columns_of l      delay, fee, width and colours of the record l
 --   placed l          the record l as a carrier's link
 --   book_carrier b    the nodes, the links and the entries of b
 --   ShowsAll b       every record and every entry of b is in its carrier, with the bytes at its place
-use Rattle.std.specs.Prelude.{◌≡◌, ℕ, zero, suc, ◌<◌, Bool, true, false, ◌&&◌, ◌||◌, List, [], ◌∷◌, Some, nat_eq, nat_lt}
+use Rattle.std.specs.Prelude.{◌≡◌, ℕ, ◌<◌, Bool, true, ◌&&◌, List, [], ◌∷◌, Some, nat_eq, nat_lt}
+use Rattle.std.specs.List.{list_any}
 use Rattle.std.specs.Option.{option_map}
 use Rattle.carriers.specs.Carrier as map
 use Rattle.books.specs.declared.records.Link.{Link}
-use Rattle.books.specs.BookLayout.{node_count, link_count, entry_count, entry_at, link_start, link_at, link_of}
-
-abbrev pub some : (ℕ → Bool) → ℕ → Bool
-some p zero = false
-some p (suc n) = p n || some p n
+use Rattle.books.specs.BookLayout.{node_count, link_count, entry_count, entry_at, link_start, link_at, link_of, below}
 
 abbrev pub lists_entry : List ℕ → ℕ → Bool
-lists_entry b v = some (λ i. nat_eq (entry_at b i) v) (entry_count b)
+lists_entry b v = list_any (λ i. nat_eq (entry_at b i) v) (below (entry_count b))
 
 abbrev pub is_entry : List ℕ → ℕ → Bool
 is_entry b v = nat_lt v (node_count b) && lists_entry b v

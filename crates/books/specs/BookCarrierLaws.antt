@@ -3,7 +3,7 @@ use Rattle.std.specs.Prelude.{◌≡◌, ℕ, ◌+◌, ◌<◌, Bool, true, fals
 use Rattle.std.proofs.Common.{ap, subst, ◌∙◌, ⊎_elim, arith}
 use Rattle.std.specs.Option.{option_map}
 use Rattle.std.proofs.lemmas.Bool.{ltb-true, eqb-true, le-ltb, cond-false, and_parts, and_left, or_cases}
-use Rattle.carriers.specs.declared.Side.TheVariants.{Inside, Onward}
+use Rattle.carriers.specs.declared.sides.Side.TheVariants.{Inside, Onward}
 use Rattle.carriers.specs.Carrier as map
 use Rattle.carriers.specs.Present.{from_tested, from_mapped}
 use Rattle.books.specs.Bytes.{byte_at, u16_at}

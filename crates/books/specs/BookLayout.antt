@@ -2,12 +2,14 @@
 --   own bs           the bytes of the book at the front of bs
 --   entry_of b i     the i-th entry node of the book b, if it has that many
 --   link_of b i      the link at place i of the book b; None past the last, or where a field breaks its rule
+--   below n          the numbers below n
 --   book_fault bs    why the front of bs is no book, if it is none
-use Rattle.std.specs.Prelude.{ℕ, zero, suc, ◌+◌, ◌-◌, ◌*◌, Bool, true, cond, not, ◌&&◌, ◌||◌, List, [], ◌∷◌, length, take, is_some, Some, None, codes, Option, ◌==◌, nat_le, nat_lt}
+use Rattle.std.specs.Prelude.{ℕ, ◌+◌, ◌-◌, ◌*◌, Bool, cond, not, ◌&&◌, ◌||◌, List, [], ◌∷◌, length, take, Some, None, codes, Option, ◌==◌, nat_le, nat_lt}
+use Rattle.std.specs.List.{range_with_len, list_all}
 use Rattle.std.specs.Str.{bytes_eq}
 use Rattle.weights.specs.Sums.{top}
-use Rattle.carriers.specs.declared.Side.{Side}
-use Rattle.carriers.specs.declared.Side.TheVariants.{Inside, Onward}
+use Rattle.carriers.specs.declared.sides.Side.{Side}
+use Rattle.carriers.specs.declared.sides.Side.TheVariants.{Inside, Onward}
 use Rattle.carriers.specs.declared.refusals.Refusal.{Refusal}
 use Rattle.carriers.specs.declared.refusals.Refusal.TheVariants.{Size, Mark, Version, Length, Field}
 use Rattle.books.specs.declared.records.Link.{Link}
@@ -77,14 +79,18 @@ link_of b i =
     (Some (link_at b (link_start b i)))
     None
 
--- the test p holds of every number below n
-abbrev pub every : (ℕ → Bool) → ℕ → Bool
-every p zero = true
-every p (suc n) = p n && every p n
+abbrev pub below : ℕ → List ℕ
+below n = range_with_len 0 n
 
 -- every entry and every link keeps its rules
+abbrev pub entries_sound : List ℕ → Bool
+entries_sound b = list_all (entry_sound b) (below (entry_count b))
+
+abbrev pub links_sound : List ℕ → Bool
+links_sound b = list_all (λ i. link_sound b (node_count b) (link_start b i)) (below (link_count b))
+
 abbrev pub fields_sound : List ℕ → Bool
-fields_sound b = every (entry_sound b) (entry_count b) && every (λ i. is_some (link_of b i)) (link_count b)
+fields_sound b = entries_sound b && links_sound b
 
 -- why the front of bs has not the shape of a book, whatever its entries and links say
 abbrev pub shape_fault : List ℕ → Option Refusal

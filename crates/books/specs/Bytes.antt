@@ -1,8 +1,7 @@
--- Big-endian numbers in a byte string, and its first bytes.
+-- Big-endian numbers in a byte string.
 --   byte_at bs i   the byte at i; 0 past the end
 --   u16_at bs i    the number in the two bytes from i on, the higher first
 --   u32_at bs i    the number in the four bytes from i on, the highest first
---   marked bs a b c   bs begins with the bytes a, b and c
 use Rattle.std.specs.Prelude.{ℕ, ◌+◌, ◌*◌, List, slice_index}
 
 abbrev pub byte_at : List ℕ → ℕ → ℕ

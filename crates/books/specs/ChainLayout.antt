@@ -1,4 +1,5 @@
 -- A chain file, byte for byte: a header of 27 bytes, then the books of its carriers, the destination's first.
+--   header_of bs       what the header of bs says, its bounds by its selection
 --   books_fault n bs   why bs is not n books and no more, if it is not
 --   books_in n bs      the bytes of each of the n books that bs begins with
 --   chain_of bs        what the chain file bs says, or its first refusal
@@ -16,11 +17,17 @@ use Rattle.carriers.specs.declared.refusals.Refusal.{Refusal}
 use Rattle.carriers.specs.declared.refusals.Refusal.TheVariants.{Mark, Version, Length, Field}
 use Rattle.books.specs.declared.bounds.Bounds.{Bounds}
 use Rattle.books.specs.declared.bounds.Bounds.TheVariants.{Delay, DelayFee, All}
+use Rattle.books.specs.declared.header.Header.{Header}
 use Rattle.books.specs.Bytes.{byte_at, u16_at, u32_at}
 use Rattle.carriers.specs.Rules.{refusal}
-use Rattle.books.specs.Faults.{otherwise, judged}
+use Rattle.carriers.specs.Rules.{judged}
+use Rattle.books.specs.Faults.{otherwise}
 use Rattle.books.specs.BookLayout.{own, book_size, book_fault, fields_sound}
 use Rattle.books.specs.BookCarrier.{ShowsAll}
+
+-- the selection is 1, 2 or 3
+abbrev pub selection_fault : List ℕ → Option Refusal
+selection_fault bs = refusal ((byte_at bs 5 == 0 || nat_lt 3 (byte_at bs 5), Field) ∷ [])
 
 abbrev pub header_fault : List ℕ → Option Refusal
 header_fault bs =
@@ -62,6 +69,15 @@ bounds_of selection bs =
     (selection == 1)
     (Delay (sum_at bs 11))
     (cond (selection == 2) (DelayFee (record { first = sum_at bs 11; second = sum_at bs 15 })) (All (all_four bs)))
+
+abbrev pub header_of : List ℕ → Header
+header_of bs =
+    record {
+      bounds = bounds_of (byte_at bs 5) bs;
+      destination = u16_at bs 7;
+      source = u16_at bs 9;
+      carriers = byte_at bs 6;
+    }
 
 pub record Contents : Type 0 where
   pub bounds : Bounds

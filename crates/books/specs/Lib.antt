@@ -5,5 +5,6 @@ pub mod BookLayout
 pub mod BookCarrier
 pub mod BookCarrierLaws
 pub mod Sides
+pub mod Records
 pub mod ChainLayout
 pub mod Told

@@ -29,16 +29,12 @@ impl<W: BookKind> Map<W> for Book<'_> {
     }
 
     fn link(&self, place: usize) -> Option<(u16, Side, u16)> {
-        match Book::link(self, place) {
-            Some(link) => Some((link.tail, link.side, link.head)),
-            None => None,
-        }
+        Book::link(self, place).map(|link| (link.tail, link.side, link.head))
     }
 
     fn weight(&self, place: usize) -> W {
-        match Book::link(self, place) {
-            Some(link) => W::read(&[link.delay, link.fee, link.width, link.colours]),
-            None => W::neutral(),
-        }
+        Book::link(self, place).map_or(W::neutral(), |link| {
+            W::read(&[link.delay, link.fee, link.width, link.colours])
+        })
     }
 }

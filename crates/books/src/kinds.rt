@@ -1,7 +1,7 @@
 // Kinds that a book can carry: how a weight is read from the columns of a link record.
 
 ghost use Rattle.std.specs.Prelude.{◌≡◌, ℕ, ◌+◌, ◌≤◌, min, List};
-ghost use Rattle.books.specs.Columns.{front_column, sum_from, width_from, colours_from, pair_from};
+ghost use Rattle.books.specs.Columns.{front_column, number_sum, number_width, number_colours, pair_from};
 
 use weights::{Colours, Kind, Pair, Sum, Width};
 
@@ -22,58 +22,50 @@ pub trait BookKind: Kind {
         ensures { result ≡ reads numbers.now };
 }
 
-fn front_column(numbers: &[u32]) -> u32
-    ensures { result ≡ front_column numbers.now }
-{
-    match numbers {
-        [first, ..] => *first,
-        [] => 0,
-    }
+// A kind whose weights take one column.
+pub trait OneColumn: Kind {
+    ghost numbered: { ℕ → Self };
+
+    // The weight that the column's number tells.
+    fn of_number(number: u32) -> Self
+        ensures { result ≡ numbered number };
 }
 
-impl<U> BookKind for Sum<U> {
+impl<K: OneColumn> BookKind for K {
     ghost columns = { 1 };
 
-    ghost reads = { sum_from };
+    ghost reads = { λ xs. K.OneColumn.numbered (front_column xs) };
 
     fn columns() -> usize {
         1
     }
 
-    fn read(numbers: &[u32]) -> Sum<U> {
-        Sum::new(front_column(numbers))
+    fn read(numbers: &[u32]) -> K {
+        K::of_number(numbers.first().copied().unwrap_or(0))
     }
 }
 
-impl BookKind for Width {
-    ghost columns = { 1 };
+impl<U> OneColumn for Sum<U> {
+    ghost numbered = { number_sum };
 
-    ghost reads = { width_from };
-
-    fn columns() -> usize {
-        1
-    }
-
-    fn read(numbers: &[u32]) -> Width {
-        Width {
-            mbits: front_column(numbers),
-        }
+    fn of_number(number: u32) -> Sum<U> {
+        Sum::new(number)
     }
 }
 
-impl BookKind for Colours {
-    ghost columns = { 1 };
+impl OneColumn for Width {
+    ghost numbered = { number_width };
 
-    ghost reads = { colours_from };
-
-    fn columns() -> usize {
-        1
+    fn of_number(number: u32) -> Width {
+        Width { mbits: number }
     }
+}
 
-    fn read(numbers: &[u32]) -> Colours {
-        Colours {
-            bits: front_column(numbers),
-        }
+impl OneColumn for Colours {
+    ghost numbered = { number_colours };
+
+    fn of_number(number: u32) -> Colours {
+        Colours { bits: number }
     }
 }
 

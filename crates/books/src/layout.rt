@@ -1,30 +1,22 @@
 // A book: one carrier's links, read where its bytes are.
 
-ghost use Rattle.std.specs.Prelude.{◌≡◌, ◌^◌, ◌<◌, ◌≤◌, length, drop, is_some, IfOk};
-ghost use Rattle.books.specs.BookCarrier.{is_entry, lists_entry, ShowsAll};
-ghost use Rattle.books.specs.BookLayout.{node_count, link_count, entry_count, entry_of, link_of, entry_sound, link_sound, link_at, every, own, book_size, shape_fault, book_fault};
+ghost use Rattle.std.specs.Prelude.{◌≡◌, ◌≤◌, length, drop, None, IfOk};
+ghost use Rattle.books.specs.BookCarrier.{is_entry, ShowsAll};
+ghost use Rattle.books.specs.BookLayout.{node_count, link_count, entry_count, entry_at, entry_of, link_of, link_sound, link_start, entry_sound, entries_sound, links_sound, own, book_size, shape_fault, book_fault};
 ghost use Rattle.books.specs.ChainLayout.{lone_book};
-ghost use Rattle.books.specs.Faults.{judged};
+ghost use Rattle.carriers.specs.Rules.{judged};
 ghost use Rattle.books.specs.Sides.{leads_to, links_on};
-ghost use Rattle.books.specs.Told.{told_book, bytes_of};
 
-use crate::numbers::{byte_at, u16_at, u32_at};
-use crate::records::Link;
-use carriers::{Refusal, Side};
+use crate::numbers::{rest_at, u16_at};
+use crate::records::{Link, record_is_sound};
+use carriers::{MOST_NODES, MOST_PLACES, Refusal, Side};
 
-// The bytes of one book.
+// The bytes of one book, which are a book and no byte more.
 #[derive(Clone, Copy)]
 pub struct Book<'a> {
     bytes: &'a [u8],
-}
-
-fn leads_to(link: Option<Link>, side: Side) -> bool
-    ensures { result ≡ leads_to side link }
-{
-    match link {
-        Some(link) => link.side == side,
-        None => false,
-    }
+    ghost sound: { book_fault bytes.now ≡ None },
+    ghost whole: { length bytes.now ≡ book_size bytes.now },
 }
 
 // The size of the book at the front of `bytes`, by its counts.
@@ -50,7 +42,7 @@ fn checked_size(bytes: &[u8]) -> Result<usize, Refusal>
     }
     let nodes = u16_at(bytes, 5);
     let links = u16_at(bytes, 7);
-    if nodes == 0 || nodes > 1024 || links > 8192 {
+    if nodes == 0 || nodes as usize > MOST_NODES || links as usize > MOST_PLACES {
         return Err(Refusal::Size);
     }
     let size = counted_size(bytes);
@@ -60,81 +52,91 @@ fn checked_size(bytes: &[u8]) -> Result<usize, Refusal>
     Ok(size)
 }
 
+// The same size, where the bytes begin with a book.
+pub(crate) fn sound_size(bytes: &[u8]) -> Result<usize, Refusal>
+    ensures size { result ≡ judged (book_fault bytes.now) (book_size bytes.now) }
+    ensures within { IfOk result (λ n. n ≤ length bytes.now) }
+{
+    let size = checked_size(bytes)?;
+    let book = &bytes[..size];
+    if entries_are_sound(book) && links_are_sound(book) {
+        Ok(size)
+    } else {
+        Err(Refusal::Field)
+    }
+}
+
+fn entry_at(bytes: &[u8], i: u16) -> u16
+    ensures { result ≡ entry_at bytes.now i }
+{
+    u16_at(bytes, 11 + 2 * i as usize)
+}
+
+// Whether the entries are nodes in strictly ascending order.
+fn entries_are_sound(bytes: &[u8]) -> bool
+    ensures { result ≡ entries_sound bytes.now }
+{
+    (0..u16_at(bytes, 9)).all(|i| entry_is_sound(bytes, i))
+}
+
+fn entry_is_sound(bytes: &[u8], i: u16) -> bool
+    ensures { result ≡ entry_sound bytes.now i }
+{
+    let node = entry_at(bytes, i);
+    node < u16_at(bytes, 5) && (i == 0 || entry_at(bytes, i - 1) < node)
+}
+
+// The bytes from the link record at `place` on.
+fn record_at(bytes: &[u8], place: u16) -> &[u8]
+    ensures { result.now ≡ drop (link_start bytes.now place) bytes.now }
+{
+    rest_at(
+        bytes,
+        11 + 2 * u16_at(bytes, 9) as usize + 24 * place as usize,
+    )
+}
+
+// Whether every link record keeps the rules of its fields.
+fn links_are_sound(bytes: &[u8]) -> bool
+    ensures { result ≡ links_sound bytes.now }
+{
+    (0..u16_at(bytes, 7)).all(|place| link_is_sound(bytes, place))
+}
+
+fn link_is_sound(bytes: &[u8], place: u16) -> bool
+    ensures { result ≡ link_sound bytes.now (node_count bytes.now) (link_start bytes.now place) }
+{
+    record_is_sound(record_at(bytes, place), u16_at(bytes, 5))
+}
+
+fn leads_to(link: Option<Link>, side: Side) -> bool
+    ensures { result ≡ leads_to side link }
+{
+    link.is_some_and(|link| link.side == side)
+}
+
 impl<'a> Book<'a> {
+    ghost use Rattle.books.specs.Told.{told_book, bytes_of};
+
     // A book that is read alone: no byte may follow it.
     pub fn read(bytes: &'a [u8]) -> Result<Book<'a>, Refusal>
         ensures answer { told_book result ≡ lone_book bytes.now }
         ensures shown { IfOk result (λ b. ShowsAll (bytes_of b)) }
     {
-        let book = Book::front(bytes)?;
-        if book.bytes.len() < bytes.len() {
+        if sound_size(bytes)? < bytes.len() {
             return Err(Refusal::Length);
         }
-        Ok(book)
+        Ok(Book { bytes })
     }
 
-    // The book at the front of `bytes`.
-    pub(crate) fn front(bytes: &'a [u8]) -> Result<Book<'a>, Refusal>
-        ensures { told_book result ≡ judged (book_fault bytes.now) (own bytes.now) }
-    {
-        let size = checked_size(bytes)?;
-        let book = Book {
-            bytes: &bytes[0..size],
-        };
-        if book.entries_are_sound() && book.links_are_sound() {
-            Ok(book)
-        } else {
-            Err(Refusal::Field)
-        }
-    }
-
-    // The book at the front of `bytes` by its counts, unchecked, and the bytes after it.
+    // The book that `bytes` begins with, and the bytes after it.
     pub(crate) fn split(bytes: &'a [u8]) -> (Book<'a>, &'a [u8])
+        requires { book_fault bytes.now ≡ None }
         ensures book { bytes_of result.0 ≡ own bytes.now }
         ensures rest { result.1.now ≡ drop (book_size bytes.now) bytes.now }
     {
-        let size = counted_size(bytes).min(bytes.len());
-        let (front, rest) = bytes.split_at(size);
+        let (front, rest) = bytes.split_at(counted_size(bytes));
         (Book { bytes: front }, rest)
-    }
-
-    // How many bytes it has.
-    pub(crate) fn size(&self) -> usize
-        ensures { result ≡ length (bytes_of self.now) }
-    {
-        self.bytes.len()
-    }
-
-    // Whether the entries are nodes in strictly ascending order.
-    fn entries_are_sound(&self) -> bool
-        ensures { result ≡ every (entry_sound self.now.bytes.now) (entry_count self.now.bytes.now) }
-    {
-        for i in 0..self.entry_count() as usize {
-            if !self.entry_is_sound(i) {
-                return false;
-            }
-        }
-        true
-    }
-
-    fn entry_is_sound(&self, i: usize) -> bool
-        requires { i < 2 ^ 16 }
-        ensures { result ≡ entry_sound self.now.bytes.now i }
-    {
-        let node = u16_at(self.bytes, 11 + 2 * i);
-        node < self.node_count() && (i == 0 || u16_at(self.bytes, 11 + 2 * (i - 1)) < node)
-    }
-
-    // Whether every link record keeps the rules of its fields.
-    fn links_are_sound(&self) -> bool
-        ensures { result ≡ every (λ i. is_some (link_of self.now.bytes.now i)) (link_count self.now.bytes.now) }
-    {
-        for place in 0..self.link_count() as usize {
-            if self.link(place).is_none() {
-                return false;
-            }
-        }
-        true
     }
 
     pub fn node_count(&self) -> u16
@@ -159,7 +161,7 @@ impl<'a> Book<'a> {
         ensures { result ≡ entry_of self.now.bytes.now i }
     {
         if i < self.entry_count() as usize {
-            Some(u16_at(self.bytes, 11 + 2 * i))
+            Some(entry_at(self.bytes, i as u16))
         } else {
             None
         }
@@ -169,80 +171,25 @@ impl<'a> Book<'a> {
     pub fn is_entry(&self, node: u16) -> bool
         ensures { result ≡ is_entry self.now.bytes.now node }
     {
-        node < self.node_count() && self.lists_entry(node)
-    }
-
-    // Whether one of the entries says `node`.
-    fn lists_entry(&self, node: u16) -> bool
-        ensures { result ≡ lists_entry self.now.bytes.now node }
-    {
-        for i in 0..self.entry_count() as usize {
-            if u16_at(self.bytes, 11 + 2 * i) == node {
-                return true;
-            }
-        }
-        false
+        (0..self.entry_count()).any(|i| entry_at(self.bytes, i) == node)
     }
 
     pub fn link(&self, place: usize) -> Option<Link>
         ensures { result ≡ link_of self.now.bytes.now place }
     {
         if place < self.link_count() as usize {
-            let start = 11 + 2 * self.entry_count() as usize + 24 * place;
-            if self.is_sound(start) {
-                return Some(self.record(start));
-            }
+            Link::read(record_at(self.bytes, place as u16))
+        } else {
+            None
         }
-        None
     }
 
     // How many of its links lead to that side.
     pub fn links_on(&self, side: Side) -> usize
         ensures { result ≡ links_on side self.now.bytes.now (link_count self.now.bytes.now) }
     {
-        let mut count = 0;
-        for place in 0..self.link_count() as usize {
-            if leads_to(self.link(place), side) {
-                count += 1;
-            }
-        }
-        count
-    }
-
-    // Whether the record that begins at `start` keeps the rules of its fields.
-    fn is_sound(&self, start: usize) -> bool
-        requires { start < 2 ^ 31 }
-        ensures { result ≡ link_sound self.now.bytes.now (node_count self.now.bytes.now) start }
-    {
-        let nodes = self.node_count();
-        let side = byte_at(self.bytes, start + 2);
-        u16_at(self.bytes, start) < nodes
-            && side <= 1
-            && byte_at(self.bytes, start + 3) == 0
-            && (side == 1 || u16_at(self.bytes, start + 4) < nodes)
-            && u16_at(self.bytes, start + 6) == 0
-            && u32_at(self.bytes, start + 8) <= weights::ceiling()
-            && u32_at(self.bytes, start + 12) <= weights::ceiling()
-    }
-
-    // What the record that begins at `start` tells.
-    fn record(&self, start: usize) -> Link
-        requires { start < 2 ^ 31 }
-        ensures { result ≡ link_at self.now.bytes.now start }
-    {
-        let bytes = self.bytes;
-        Link {
-            tail: u16_at(bytes, start),
-            side: if byte_at(bytes, start + 2) == 0 {
-                Side::Inside
-            } else {
-                Side::Onward
-            },
-            head: u16_at(bytes, start + 4),
-            delay: u32_at(bytes, start + 8),
-            fee: u32_at(bytes, start + 12),
-            width: u32_at(bytes, start + 16),
-            colours: u32_at(bytes, start + 20),
-        }
+        (0..self.link_count() as usize)
+            .filter(|place| leads_to(self.link(*place), side))
+            .count()
     }
 }

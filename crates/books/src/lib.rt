@@ -5,16 +5,19 @@
 mod book_map;
 mod bounds;
 mod chain_file;
+mod header;
 mod kinds;
 mod layout;
 mod numbers;
 mod records;
+mod walk;
 
 pub use bounds::Bounds;
 pub use chain_file::Chain;
 pub use kinds::BookKind;
 pub use layout::Book;
 pub use records::Link;
+pub use walk::Books;
 
 #[cfg(test)]
 mod tests;

@@ -9,8 +9,8 @@
 --   meant f c         the carrier c with f of each link's weight for its weight
 use Rattle.std.specs.Prelude.{◌≡◌, ℕ, ◌<◌, ◌≤◌, Bool, T, Some, None, Option}
 use Rattle.std.specs.Option.{option_map}
-use Rattle.carriers.specs.declared.Side.{Side}
-use Rattle.carriers.specs.declared.Side.TheVariants.{Inside}
+use Rattle.carriers.specs.declared.sides.Side.{Side}
+use Rattle.carriers.specs.declared.sides.Side.TheVariants.{Inside}
 
 pub record Link (V : Type 0) : Type 0 where
   pub tail : ℕ

@@ -2,7 +2,7 @@
 use Rattle.std.specs.Prelude.{◌≡◌, ℕ, ◌<◌, Some}
 use Rattle.std.proofs.Common.{ap, subst, ◌∙◌}
 use Rattle.std.specs.Option.{option_map}
-use Rattle.carriers.specs.declared.Side.TheVariants.{Inside}
+use Rattle.carriers.specs.declared.sides.Side.TheVariants.{Inside}
 use Rattle.carriers.specs.Carrier.{Link, Carrier, Sound, link_meant, meant}
 use Rattle.carriers.specs.Present.{from_mapped}
 

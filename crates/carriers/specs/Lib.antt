@@ -1,4 +1,5 @@
 pub mod Refusals
+pub mod Sides
 pub mod Rules
 pub mod Carrier
 pub mod Present

@@ -2,7 +2,7 @@
 use Rattle.std.specs.Prelude.{◌≡◌, ℕ, ◌+◌, ◌<◌, ◌≤◌, Bool, true, false, cond, ◌⊎◌, Some, None, ◌==◌, nat_lt, refl}
 use Rattle.std.proofs.Common.{ap, ◌∙◌, inl, inr, ⊎_elim, arith, eqb→eq}
 use Rattle.std.proofs.lemmas.Bool.{ltb-true, eqb-true, le-ltb, ne_eqb, cond-false}
-use Rattle.carriers.specs.declared.Side.TheVariants.{Inside}
+use Rattle.carriers.specs.declared.sides.Side.TheVariants.{Inside}
 use Rattle.carriers.specs.Carrier.{Link, Sound}
 use Rattle.carriers.specs.Lines.{onto_next, onward, link_in_line, line}
 

@@ -3,7 +3,7 @@
 --   onward i w      the link at the last place i of a line, to node 0 of the next carrier
 --   line n w        n nodes in a row, every link of weight w, node 0 the only entry
 use Rattle.std.specs.Prelude.{ℕ, ◌+◌, cond, Some, None, Option, ◌==◌, nat_lt}
-use Rattle.carriers.specs.declared.Side.TheVariants.{Inside, Onward}
+use Rattle.carriers.specs.declared.sides.Side.TheVariants.{Inside, Onward}
 use Rattle.carriers.specs.Carrier.{Link, Carrier}
 
 abbrev pub onto_next : {V : Type 0} → ℕ → V → Link V

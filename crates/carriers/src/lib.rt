@@ -6,19 +6,15 @@ mod fences;
 mod lines;
 mod maps;
 mod refusals;
+mod sides;
 mod sizes;
 
 pub use fences::Fence;
 pub use lines::Line;
 pub use maps::Map;
 pub use refusals::Refusal;
-
-// Where a link leads: to a node of its own carrier, or to a node of the next carrier towards the destination.
-#[derive(Clone, Copy, PartialEq, Eq, Debug)]
-pub enum Side {
-    Inside,
-    Onward,
-}
+pub use sides::Side;
+pub use sizes::{MOST_NODES, MOST_PLACES};
 
 #[cfg(test)]
 mod tests;

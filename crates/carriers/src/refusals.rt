@@ -3,57 +3,45 @@
 ghost use Rattle.std.specs.Prelude.{◌≡◌, Some};
 ghost use Rattle.carriers.specs.Refusals.{number_of, word_of, refusal_text};
 
+use std::error::Error;
 use std::fmt;
 
 #[derive(Clone, Copy, PartialEq, Eq, Debug)]
 pub enum Refusal {
     // The call is not for the request's stage.
-    Stage,
+    Stage = 1,
     // The memory has too many labels, or not as many as when the request was opened.
-    Memory,
+    Memory = 2,
     // The weight may not serve as a bound.
-    Bound,
+    Bound = 3,
     // The carrier has no node, too many nodes or too many links.
-    Size,
+    Size = 4,
     // The chain has as many carriers as it may have.
-    Chain,
+    Chain = 5,
     // The destination or the source is no node of the carrier.
-    Node,
+    Node = 6,
     // The memory has too few labels for the run.
-    Full,
+    Full = 7,
     // No route of the list, or no label of the memory, has this position or key.
-    Key,
+    Key = 8,
     // The slice is too short for the answer.
-    Short,
+    Short = 9,
     // The bytes do not begin with their mark.
-    Mark,
+    Mark = 10,
     // The format's version is not 1.
-    Version,
+    Version = 11,
     // There are too few or too many bytes.
-    Length,
+    Length = 12,
     // A field breaks its rule.
-    Field,
+    Field = 13,
 }
 
 impl Refusal {
+    // A method and no `From`, as `word` is: a refusal has these two names.
     pub fn number(self) -> u8
         ensures { result ≡ number_of self }
     {
-        match self {
-            Refusal::Stage => 1,
-            Refusal::Memory => 2,
-            Refusal::Bound => 3,
-            Refusal::Size => 4,
-            Refusal::Chain => 5,
-            Refusal::Node => 6,
-            Refusal::Full => 7,
-            Refusal::Key => 8,
-            Refusal::Short => 9,
-            Refusal::Mark => 10,
-            Refusal::Version => 11,
-            Refusal::Length => 12,
-            Refusal::Field => 13,
-        }
+        self as u8
     }
 
     pub fn word(self) -> &'static str
@@ -82,8 +70,8 @@ impl fmt::Display for Refusal {
     ghost output = { λ r. Some (refusal_text r) };
 
     fn fmt<W: fmt::Write>(&self, f: &mut fmt::Formatter<W>) -> fmt::Result {
-        let number = self.number();
-        let word = self.word();
-        write!(f, "{number} {word}")
+        write!(f, "{} {}", self.number(), self.word())
     }
 }
+
+impl Error for Refusal {}

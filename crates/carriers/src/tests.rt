@@ -11,6 +11,13 @@ fn a_refusal_tells_its_number_and_its_word(rt: HostRuntime) -> Result<(), Fail> 
     Ok(())
 }
 
+#[test]
+fn a_side_has_the_number_0_or_1(rt: HostRuntime) {
+    assert_eq!(rt; Side::try_from(0), Ok(Side::Inside));
+    assert_eq!(rt; Side::try_from(1), Ok(Side::Onward));
+    assert_eq!(rt; Side::try_from(2), Err(Refusal::Field));
+}
+
 fn three_nodes() -> Result<Line<Delay>, Refusal> {
     Line::new(3, Delay::new(5))
 }

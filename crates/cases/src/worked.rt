@@ -1,9 +1,9 @@
 // The worked chain of two carriers, a fence over it, and a line.
 
-use crate::account::{Cost, after, blank, cost, crossed};
-use crate::requested;
-use books::{Book, BookKind};
-use carriers::{Fence, Line};
+use crate::account::crossed;
+use books::Book;
+use carriers::{Fence, Line, Map, Refusal};
+use costs::{Amounts, Cost, cost};
 use crossing::{Before, Marks, Scope};
 use std::io;
 use stepping::Label;
@@ -30,132 +30,96 @@ const BOOK_1: [u8; 107] = [
     0x00, 0x00, 0x00, 0x00, 0x00, 0x03, 0xe8, 0x00, 0x00, 0x00, 0x00,
 ];
 
-// Both carriers, from node 0 of the second to node 2 of the first, within delay 8 and fee 6.
-pub(crate) fn chain(rt: &impl Print) -> io::Result<()> {
-    println!(rt; "worked chain within delay 8, fee 6")?;
-    let (Ok(first), Ok(second)) = (Book::read(&BOOK_0), Book::read(&BOOK_1)) else {
-        return println!(rt; "a book was refused");
-    };
-    let mut memory = [blank(); 7];
-    let bounds = cost(8, 6);
-    let scope = Scope {
+// The two carriers of the worked chain.
+#[derive(Clone, Copy)]
+pub(crate) struct Books {
+    pub(crate) first: Book<'static>,
+    pub(crate) second: Book<'static>,
+}
+
+impl Books {
+    pub(crate) fn read() -> Result<Books, Refusal> {
+        Ok(Books {
+            first: Book::read(&BOOK_0)?,
+            second: Book::read(&BOOK_1)?,
+        })
+    }
+}
+
+// A crossing in unused memory, which starts from the destination.
+fn from_destination(bounds: Cost, destination: u16, marks: Marks) -> Scope<Cost> {
+    Scope {
         bounds,
         used: 0,
-        before: Before::Destination(2),
-        marks: Marks::Entries,
-    };
-    let run = crossed(rt, "carrier 0", &first, scope, &mut memory)?;
+        before: Before::Destination(destination),
+        marks,
+    }
+}
+
+// Two carriers one behind the other, from node 0 of the second to the destination in the first.
+fn both<F: Map<Cost>, S: Map<Cost>>(
+    rt: &impl Print,
+    first: &F,
+    second: &S,
+    bounds: Cost,
+    destination: u16,
+    memory: &mut [Label<Cost>],
+) -> io::Result<()> {
+    let scope = from_destination(bounds, destination, Marks::Entries);
+    let run = crossed(rt, "carrier 0", first, scope, memory)?;
     let scope = Scope {
         bounds,
         used: run.length,
-        before: after(run),
+        before: Before::Run(run),
         marks: Marks::Only(0),
     };
-    crossed(rt, "carrier 1", &second, scope, &mut memory)?;
-    println!(rt; "the same with one label fewer")?;
-    let mut fewer = [blank(); 6];
-    let scope = Scope {
-        bounds,
-        used: 0,
-        before: Before::Destination(2),
-        marks: Marks::Entries,
-    };
-    let run = crossed(rt, "carrier 0", &first, scope, &mut fewer)?;
-    let scope = Scope {
-        bounds,
-        used: run.length,
-        before: after(run),
-        marks: Marks::Only(0),
-    };
-    crossed(rt, "carrier 1", &second, scope, &mut fewer)?;
+    crossed(rt, "carrier 1", second, scope, memory)?;
     Ok(())
 }
 
+// Both carriers, from node 0 of the second to node 2 of the first, in two memories.
+pub(crate) fn chain(rt: &impl Print, books: &Books) -> io::Result<()> {
+    let bounds = cost(8, 6);
+    println!(rt; "worked chain within {}", Amounts(bounds))?;
+    let Books { first, second } = books;
+    both(rt, first, second, bounds, 2, &mut [Label::blank(); 7])?;
+    println!(rt; "the same with one label fewer")?;
+    both(rt, first, second, bounds, 2, &mut [Label::blank(); 6])
+}
+
 // The first carrier alone, with the destination as the source.
-pub(crate) fn alone(rt: &impl Print) -> io::Result<()> {
-    println!(rt; "carrier 0 alone within delay 3, fee 6")?;
-    let Ok(first) = Book::read(&BOOK_0) else {
-        return println!(rt; "the book was refused");
-    };
-    let mut memory = [blank(); 7];
-    let scope = Scope {
-        bounds: cost(3, 6),
-        used: 0,
-        before: Before::Destination(2),
-        marks: Marks::Only(2),
-    };
-    crossed(rt, "carrier 0", &first, scope, &mut memory)?;
+pub(crate) fn alone(rt: &impl Print, books: &Books) -> io::Result<()> {
+    let bounds = cost(3, 6);
+    println!(rt; "carrier 0 alone within {}", Amounts(bounds))?;
+    let scope = from_destination(bounds, 2, Marks::Only(2));
+    crossed(
+        rt,
+        "carrier 0",
+        &books.first,
+        scope,
+        &mut [Label::blank(); 7],
+    )?;
     Ok(())
 }
 
 // A fence takes the direct link away, whose delay is 5.
-pub(crate) fn fenced(rt: &impl Print) -> io::Result<()> {
-    println!(rt; "carrier 0 behind a fence at delay 4, fee 4")?;
-    let Ok(first) = Book::read(&BOOK_0) else {
-        return println!(rt; "the book was refused");
-    };
+pub(crate) fn fenced(rt: &impl Print, books: &Books) -> io::Result<()> {
+    let limit = cost(4, 4);
+    println!(rt; "carrier 0 behind a fence at {}", Amounts(limit))?;
+    let scope = from_destination(cost(8, 6), 2, Marks::Entries);
     let map = Fence {
-        map: first,
-        limit: cost(4, 4),
+        map: books.first,
+        limit,
     };
-    let mut memory = [blank(); 7];
-    let scope = Scope {
-        bounds: cost(8, 6),
-        used: 0,
-        before: Before::Destination(2),
-        marks: Marks::Entries,
-    };
-    crossed(rt, "carrier 0", &map, scope, &mut memory)?;
+    crossed(rt, "carrier 0", &map, scope, &mut [Label::blank(); 7])?;
     Ok(())
 }
 
-// Requests for the chain, within several bounds, and what refused calls leave.
-pub(crate) fn requests(rt: &impl Print) -> io::Result<()> {
-    let (Ok(first), Ok(second)) = (Book::read(&BOOK_0), Book::read(&BOOK_1)) else {
-        return println!(rt; "a book was refused");
-    };
-    for (delay, fee) in [(8, 6), (8, 5), (6, 3), (6, 2), (5, 3)] {
-        requested::worked(rt, &first, &second, cost(delay, fee), &mut [blank(); 7])?;
-    }
-    requested::worked(rt, &first, &second, cost(8, 6), &mut [blank(); 6])?;
-    requested::alone(rt, &first)?;
-    requested::refused(rt, &first, &second)?;
-    match Line::new(1, cost(1, 2)) {
-        Ok(line) => requested::sixteen(rt, &line, &mut [blank(); 16]),
-        Err(refusal) => println!(rt; "refused {refusal}"),
-    }
-}
-
 // A line of three nodes after a line of two, every link with delay 1 and fee 2.
-pub(crate) fn line(rt: &impl Print) -> io::Result<()> {
-    println!(rt; "two lines within delay 8, fee 8")?;
-    match Line::new(2, cost(1, 2)) {
-        Ok(first) => lines(rt, &first),
-        Err(refusal) => println!(rt; "refused {refusal}"),
-    }
-}
-
-fn lines(rt: &impl Print, first: &Line<Cost>) -> io::Result<()> {
-    let mut memory = [blank(); 16];
+pub(crate) fn lines(rt: &impl Print) -> io::Result<()> {
     let bounds = cost(8, 8);
-    let scope = Scope {
-        bounds,
-        used: 0,
-        before: Before::Destination(1),
-        marks: Marks::Entries,
-    };
-    let run = crossed(rt, "carrier 0", first, scope, &mut memory)?;
-    let scope = Scope {
-        bounds,
-        used: run.length,
-        before: after(run),
-        marks: Marks::Only(0),
-    };
-    match Line::new(3, cost(1, 2)) {
-        Ok(second) => {
-            crossed(rt, "carrier 1", &second, scope, &mut memory)?;
-            Ok(())
-        }
-        Err(refusal) => println!(rt; "refused {refusal}"),
-    }
+    println!(rt; "two lines within {}", Amounts(bounds))?;
+    let first = Line::new(2, cost(1, 2)).unwrap();
+    let second = Line::new(3, cost(1, 2)).unwrap();
+    both(rt, &first, &second, bounds, 1, &mut [Label::blank(); 16])
 }

@@ -3,15 +3,11 @@
 #![tactic(auto)]
 
 use account::Account;
+use input::chain_file;
 use std::io;
-use std::io::Read;
-
-// One byte more than a chain file may have: what follows makes no difference to the refusal.
-const ENOUGH: u64 = 65_537;
 
 fn main(rt: HostRuntime) -> io::Result<()> {
-    let mut bytes = Vec::new(rt.alloc());
-    rt.stdin().take(ENOUGH).read_to_end(&mut bytes)?;
+    let bytes = chain_file(&rt)?;
     let account = Account::of(bytes.as_slice());
     print!(rt; "{account}")
 }

@@ -1,7 +1,8 @@
 pub mod Items
+pub mod Covers
 pub mod Steps
 pub mod Links
 pub mod Places
-pub mod Blanks
 pub mod Runs
+pub mod Blanks
 pub mod Whole

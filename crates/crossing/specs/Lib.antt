@@ -1,4 +1,3 @@
 pub mod Offers
 pub mod Scopes
 pub mod Crossed
-pub mod Settling

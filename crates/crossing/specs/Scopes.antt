@@ -21,15 +21,15 @@ marks_of (Only n) e v = v == n
 
 abbrev pub start_of : Before → ℕ
 start_of (Destination d) = 0
-start_of (Run start length) = start
+start_of (Run r) = r.start
 
 abbrev pub destination_of : Before → Option ℕ
 destination_of (Destination d) = Some d
-destination_of (Run start length) = None
+destination_of (Run r) = None
 
 abbrev pub before_labels : {W : Type 0} → Before → ℕ → List (Label W) → List (Label W)
 before_labels (Destination d) n m = []
-before_labels (Run start length) n m = take length (drop start (take n m))
+before_labels (Run r) n m = take r.length (drop r.start (take n m))
 
 abbrev pub view : {W : Type 0} (A : Algebra) → (W → A.Weight) → Scope W → Carrier W → List (Label W) → View A
 view A f s c before =

@@ -5,17 +5,16 @@ ghost use Rattle.stepping.specs.Labels.{meanings};
 ghost use Rattle.crossing.specs.Crossed.{outcome, unfit, answer_of, memory_of};
 
 use crate::scopes::Scope;
-use crate::settling::{blank_from, settle_run};
-use carriers::{Map, Refusal};
+use crate::settling::blank_from;
+use crate::stepping_rule::Crossing;
+use carriers::{MOST_PLACES, Map, Refusal};
 use stepping::Label;
 use weights::Kind;
-
-// The most link places that a carrier may have: link numbers stay clear of the destination's 65,535.
-const MOST_PLACES: usize = 8192;
 
 // Settles the run of one carrier from the first unused label on, and answers how many labels it settled.
 // Refused: more labels in use than there are; too many places; no label free for the whole run, and then every
 // unused label is blank.
+#[tactic(auto, using(crate::proofs::Whole::parts))]
 pub fn cross<W: Kind, M: Map<W>>(
     scope: Scope<W>,
     map: &M,
@@ -33,8 +32,16 @@ pub fn cross<W: Kind, M: Map<W>>(
     if map.place_count() > MOST_PLACES {
         return Err(Refusal::Size);
     }
-    match settle_run(&scope, map, memory) {
-        Some(end) => Ok(end - scope.used),
+    let (used, free) = memory.split_at_mut(scope.used);
+    let before = scope.before.labels(used);
+    let crossing = Crossing {
+        scope,
+        map,
+        before: &before,
+    };
+    // A match, since where too few labels are free they are all blanked too.
+    match crossing.settle(free) {
+        Some(settled) => Ok(settled),
         None => {
             blank_from(memory, scope.used);
             Err(Refusal::Full)

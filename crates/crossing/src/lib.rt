@@ -4,7 +4,7 @@
 
 mod choosing;
 mod crossings;
-mod parts;
+mod keyed;
 mod scopes;
 mod settling;
 mod stepping_rule;

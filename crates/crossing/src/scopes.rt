@@ -1,13 +1,17 @@
 // What a crossing is told besides the map and the memory.
 
-ghost use Rattle.std.specs.Prelude.{◌≡◌};
-ghost use Rattle.crossing.specs.Scopes.{start_of};
+ghost use Rattle.std.specs.Prelude.{◌≡◌, length};
+ghost use Rattle.crossing.specs.Scopes.{start_of, before_labels};
 
-// What the run starts from: in the first crossing of a chain the destination, and later the run before.
+use crate::keyed::Keyed;
+use stepping::{Label, Run};
+
+// What the run starts from: in the first crossing of a chain the destination, and later the run before. It is no
+// Option, since each of the two has a value.
 #[derive(Clone, Copy)]
 pub enum Before {
     Destination(u16),
-    Run { start: usize, length: usize },
+    Run(Run),
 }
 
 impl Before {
@@ -17,12 +21,29 @@ impl Before {
     {
         match self {
             Before::Destination(_) => 0,
-            Before::Run { start, .. } => start,
+            Before::Run(run) => run.start,
         }
+    }
+
+    // The labels of the run before, as far as they are among those in use.
+    pub(crate) fn labels<W>(self, used: &[Label<W>]) -> Keyed<'_, W>
+        ensures labels { result.labels.now ≡ before_labels self (length used.now) used.now }
+        ensures key { result.first_key ≡ start_of self }
+    {
+        let first_key = self.start();
+        let labels = match self {
+            Before::Destination(_) => &[],
+            Before::Run(run) => {
+                let from_start = used.get(run.start..).unwrap_or(&[]);
+                from_start.get(..run.length).unwrap_or(from_start)
+            }
+        };
+        Keyed { labels, first_key }
     }
 }
 
 // Which labels are marked: those at entry nodes, or those at one node alone.
+// No Option, since `None` would not say that the entries are marked.
 #[derive(Clone, Copy)]
 pub enum Marks {
     Entries,

@@ -6,7 +6,7 @@ use Rattle.std.proofs.lemmas.Bool.{eq-eqb, ne_eqb, lt-ltb, le-ltb, ltb-true, ltb
 use Rattle.stepping.specs.declared.Label.{Label}
 use Rattle.stepping.specs.Labels.{no_link}
 use Rattle.stepping.proofs.Places.{none_some, some_same}
-use Rattle.histories.specs.declared.Run.{Run}
+use Rattle.stepping.specs.declared.Run.{Run}
 use Rattle.histories.specs.declared.Hop.{Hop}
 use Rattle.histories.specs.Runs.{position}
 use Rattle.histories.specs.Expansion.{hop_of, follow_from, follow}

@@ -1,11 +1,11 @@
 -- What a request has found at a node whose labels the latest crossing marked.
 use Rattle.std.proofs.Common.{◌≡◌, ℕ, ◌+◌, ltb, List, ◌∷◌, length, Some, Ok, sym, ◌∙◌, subst, arith, length-append}
+use Rattle.std.proofs.lemmas.Option.{slice_get_within}
 use Rattle.std.specs.List.{slice_get}
 use Rattle.std.proofs.lemmas.Bool.{lt-ltb, le-ltb, cond-true, cond-false}
 use Rattle.weights.specs.Algebra.{Algebra, Laws}
 use Rattle.carriers.specs.Carrier.{Carrier}
 use Rattle.stepping.specs.Labels.{Labels}
-use Rattle.stepping.proofs.Places.{nth_below}
 use Rattle.stepping.proofs.Kept.{map_from}
 use Rattle.histories.specs.declared.Item.{Item}
 use Rattle.histories.specs.declared.Hop.{Hop}
@@ -57,7 +57,7 @@ module _
         o.index
         y
         o.stands in
-        let low = nth_below h.top.run o.index y o.stands in
+        let low = slice_get_within h.top.run o.index y o.stands in
         let u = used_is A laws cs p m (h.top ∷ h.layers) h.built in
         let n = length-append (flat h.layers) h.top.run in
         let all : (slice : List Hop) → on_expand s (start + o.index) m slice ≡ into slice (Ok t.hops) =

@@ -1,9 +1,10 @@
 -- Of the weights that a property holds of there is no more than one front.
 use Rattle.std.proofs.Common.{◌≡◌, ℕ, zero, suc, T, List, [], ◌∷◌, Some, sym, refl, ap, ◌∙◌, subst, inl, inr, arith}
+use Rattle.std.proofs.lemmas.Option.{slice_get_within}
 use Rattle.std.specs.List.{slice_get}
 use Rattle.std.proofs.lemmas.Bool.{cases_order, cases_eq}
 use Rattle.weights.specs.Algebra.{Algebra, Laws}
-use Rattle.stepping.proofs.Places.{none_some, some_same, nth_below, Pairs}
+use Rattle.stepping.proofs.Places.{none_some, some_same, Pairs}
 use Rattle.histories.specs.Promise.{Front}
 use Rattle.histories.proofs.Places.{nth_some}
 
@@ -24,7 +25,7 @@ module _ (A : Algebra) (laws : Laws A) where
         | inr q ↦
             elim q [
               | inl l ↦
-                  let m = nth_some ws j (let b = nth_below ws (suc j) y f in omega arith) in
+                  let m = nth_some ws j (let b = slice_get_within ws (suc j) y f in omega arith) in
                   laws.before_trans x m.0 y (ascending_pairs ws h i j x m.0 e m.1 l) (h j m.0 y m.1 f)
               | inr l ↦ absurd (omega arith)
             ]

@@ -8,7 +8,7 @@ use Rattle.histories.specs.Stages.{Stage, idle, opened, finished, refused}
 use Rattle.histories.specs.Rules.{refusal, open_rules, cross_rules, finish_rules, begun_rules}
 use Rattle.histories.specs.Calls.{on_open}
 use Rattle.histories.specs.Histories.{Call, to_open, to_cross, to_finish, to_withdraw, does, Log, State, left, History, new, over, own, other, chain}
-use Rattle.histories.proofs.Turned.{ok_err, unless_cases, cross_places, finish_places, as_was, blanked, turned}
+use Rattle.histories.proofs.Turned.{unless_cases, cross_places, finish_places, as_was, blanked, turned}
 use Rattle.histories.proofs.Standing.{told, Open, Stands}
 use Rattle.histories.proofs.Grown.{cleared_same}
 use Rattle.histories.proofs.Kept.{Still, kept, opened_anew, crossed_kept, finished_kept}
@@ -60,8 +60,8 @@ module _ (A : Algebra) (laws : Laws A) (log : Log A.Weight) where
       (λ r q. tt)
       (λ none q. opened_anew A laws log b t m))
       e
-  over_kept (opened p) b t m e = ok_err tt refusals.Stage (sym e)
-  over_kept (finished p) b t m e = ok_err tt refusals.Stage (sym e)
+  over_kept (opened p) b t m e = absurd (cc e)
+  over_kept (finished p) b t m e = absurd (cc e)
 
   -- a refused call leaves the stage, whatever it is handed; and its own labels
   pub same_stage : (s : Stage A.Weight) (c : Call A.Weight) (m : Labels A) (r : Refusal)

@@ -7,7 +7,7 @@ use Rattle.carriers.specs.Carrier.{Carrier}
 use Rattle.stepping.specs.declared.Label.{Label}
 use Rattle.stepping.specs.View.{View}
 use Rattle.stepping.specs.Domain.{Ended}
-use Rattle.histories.specs.declared.Run.{Run}
+use Rattle.stepping.specs.declared.Run.{Run}
 use Rattle.histories.specs.Runs.{latest, used, labels_of}
 use Rattle.histories.proofs.Places.{nth_end}
 

@@ -1,8 +1,7 @@
 -- The stage after every history is the one that calls and answers tell.
-use Rattle.std.proofs.Common.{◌≡◌, ℕ, eqb, ◌∷◌, length, Ok, Err, sym, refl, ap, ◌∙◌, arith}
+use Rattle.std.proofs.Common.{◌≡◌, ℕ, eqb, ◌∷◌, length, Ok, Err, Result, refl, ap, ◌∙◌}
 use Rattle.weights.specs.Algebra.{Algebra, Laws}
 use Rattle.carriers.specs.declared.refusals.Refusal.{Refusal}
-use Rattle.carriers.specs.declared.refusals.Refusal.TheVariants as refusals
 use Rattle.stepping.specs.Labels.{Labels}
 use Rattle.histories.specs.Stages.{Progress, Stage, idle, opened, finished, After, refused}
 use Rattle.histories.specs.Rules.{refusal, open_rules, cross_rules, finish_rules, begun_rules}
@@ -11,7 +10,7 @@ use Rattle.histories.specs.Crossings.{outcome}
 use Rattle.histories.specs.Calls.{ending, on_open}
 use Rattle.histories.specs.Histories.{Call, to_open, to_cross, to_finish, to_withdraw, Answer, does, Log, History, new, over, own, other, when_open, when_finished, phase_of, phase_told}
 use Rattle.histories.specs.Promise.{Staged}
-use Rattle.histories.proofs.Turned.{ok_err, unless_cases, crossed_cases}
+use Rattle.histories.proofs.Turned.{unless_cases, crossed_cases}
 use Rattle.histories.proofs.Histories.{same_stage}
 
 module _ (A : Algebra) (log : Log A.Weight) where
@@ -54,11 +53,11 @@ module _ (A : Algebra) (log : Log A.Weight) where
       (refusal (open_rules A b m))
       (refused idle m)
       _
-      (λ r q. ok_err tt r (sym q))
+      (λ r (q : ◌≡◌ {A = Result (Unit {0}) Refusal} (Err r) (Ok tt)). absurd (cc q))
       (λ none q. refl))
       e
-  over_told (opened p) b t m e = ok_err tt refusals.Stage (sym e)
-  over_told (finished p) b t m e = ok_err tt refusals.Stage (sym e)
+  over_told (opened p) b t m e = absurd (cc e)
+  over_told (finished p) b t m e = absurd (cc e)
 
   refused_told : (c : Call A.Weight) (why : Refusal) → phase_told log ≡ phase_told ((c, Err why) ∷ log)
   refused_told (to_open b t) why = refl
@@ -78,11 +77,11 @@ staged_theorem A laws log r h = staged h
 
 -- a stage by its phase
 pub is_open : {W : Type 0} (s : Stage W) → phase_of s ≡ when_open → (p : Progress W) × (s ≡ opened p)
-is_open idle e = absurd (let z : ◌≡◌ {A = ℕ} 0 1 = cc in omega arith)
+is_open idle e = absurd (cc e)
 is_open (opened p) e = (p, refl)
-is_open (finished p) e = absurd (let z : ◌≡◌ {A = ℕ} 0 1 = cc in omega arith)
+is_open (finished p) e = absurd (cc e)
 
 pub is_finished : {W : Type 0} (s : Stage W) → phase_of s ≡ when_finished → (p : Progress W) × (s ≡ finished p)
-is_finished idle e = absurd (let z : ◌≡◌ {A = ℕ} 0 1 = cc in omega arith)
-is_finished (opened p) e = absurd (let z : ◌≡◌ {A = ℕ} 0 1 = cc in omega arith)
+is_finished idle e = absurd (cc e)
+is_finished (opened p) e = absurd (cc e)
 is_finished (finished p) e = (p, refl)

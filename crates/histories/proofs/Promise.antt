@@ -1,15 +1,13 @@
 -- The theorems on what a request has found, after every history.
-use Rattle.std.proofs.Common.{◌≡◌, ℕ, zero, suc, true, T, List, [], ◌∷◌, length, Some, sym, refl, ap, ◌∙◌, subst, inl, inr, arith}
+use Rattle.std.proofs.Common.{◌≡◌, ℕ, zero, suc, true, T, List, [], ◌∷◌, length, Some, sym, refl, ap, ◌∙◌, subst, inl, inr, arith, None, Option}
+use Rattle.std.proofs.lemmas.Option.{slice_get_within}
 use Rattle.std.specs.List.{slice_get}
 use Rattle.std.proofs.lemmas.Bool.{eq-eqb, cases_order}
 use Rattle.weights.specs.Algebra.{Algebra, Laws}
 use Rattle.carriers.specs.Carrier.{Carrier}
 use Rattle.stepping.specs.Labels.{Labels}
 use Rattle.stepping.proofs.Tests.{T_true}
-use Rattle.stepping.proofs.Places.{nth_below}
 use Rattle.stepping.proofs.Kept.{map_from}
-use Rattle.histories.specs.declared.Routes.{Routes}
-use Rattle.histories.specs.declared.Routes.TheVariants.{NoRoute, Listed}
 use Rattle.histories.specs.Stages.{Progress, Stage, opened, finished}
 use Rattle.histories.specs.Calls.{routes_of}
 use Rattle.histories.specs.Histories.{Log, State, chain}
@@ -23,14 +21,14 @@ use Rattle.histories.proofs.Histories.{same_state, stands}
 use Rattle.histories.proofs.Marked.{Marked, query_of}
 use Rattle.histories.proofs.Found.{found}
 
-listed_none : (n k : ℕ) → ◌≡◌ {A = Routes} (Listed n) NoRoute → k ≡ 0
-listed_none n k e = absurd (let z : ◌≡◌ {A = ℕ} 0 1 = cc in omega arith)
+listed_none : (n k : ℕ) → ◌≡◌ {A = Option ℕ} (Some n) None → k ≡ 0
+listed_none n k e = absurd (cc e)
 
-none_of : (n : ℕ) → routes_of n ≡ NoRoute → n ≡ 0
+none_of : (n : ℕ) → routes_of n ≡ None → n ≡ 0
 none_of zero e = refl
 none_of (suc n) e = listed_none (suc n) (suc n) e
 
-some_of : (n : ℕ) → (routes_of n ≡ NoRoute → ⊥) → routes_of n ≡ Listed n
+some_of : (n : ℕ) → (routes_of n ≡ None → ⊥) → routes_of n ≡ Some n
 some_of zero h = absurd (h refl)
 some_of (suc n) h = refl
 
@@ -40,7 +38,7 @@ module _ (A : Algebra) (q : Query A) (r : State A.Weight) (f : Found A q r) wher
   no_route e x w =
       let c = f.front.complete x w in
       let it = map_from (λ it. it.weight) f.listed c.0 c.1 c.2 in
-      let low = nth_below f.listed c.0 it.0 it.1 in
+      let low = slice_get_within f.listed c.0 it.0 it.1 in
       omega arith
 
   nothing_listed : ((x : A.Weight) → Routed A q x → ⊥) → length f.listed ≡ 0

@@ -1,10 +1,10 @@
 -- Where the labels of each layer stand in the memory, and at which position of the chain.
 use Rattle.std.proofs.Common.{◌≡◌, ℕ, ◌+◌, ◌≤◌, ltb, List, [], ◌∷◌, ◌++◌, length, Some, ap, ◌∙◌, append_assoc, arith, length-append}
+use Rattle.std.proofs.lemmas.Option.{slice_get_within}
 use Rattle.std.specs.List.{slice_get}
 use Rattle.std.proofs.lemmas.Bool.{lt-ltb, le-ltb, cond-true, cond-false}
 use Rattle.stepping.specs.declared.Label.{Label}
-use Rattle.stepping.proofs.Places.{nth_below}
-use Rattle.histories.specs.declared.Run.{Run}
+use Rattle.stepping.specs.declared.Run.{Run}
 use Rattle.histories.specs.Runs.{position}
 use Rattle.histories.proofs.Places.{nth_skip, nth_left}
 use Rattle.histories.proofs.Layers.{Layer, flat, span, spans, length_spans}
@@ -27,7 +27,7 @@ module _ {W : Type 0} (m : List (Label W)) where
   rooted_under (l ∷ ls) r rs h o =
       let a = length-append (flat ls) l.run in (
         λ k y e.
-            let b = nth_below l.run k y e in
+            let b = slice_get_within l.run k y e in
             let key = length (flat ls) + k in
             record {
               stands = (o.0 k y e).stands;

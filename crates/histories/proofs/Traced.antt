@@ -1,16 +1,17 @@
 -- A label stands for a route of its weight, the hops of which following its nexts gives: each way that a label arises.
 use Rattle.std.proofs.Common.{◌≡◌, ℕ, suc, ◌+◌, ◌<◌, ◌≤◌, T, List, [], ◌∷◌, length, Some, sym, refl, ap, ◌∙◌, subst, arith, length-append}
+use Rattle.std.proofs.lemmas.Option.{slice_get_within}
 use Rattle.std.specs.List.{slice_get}
 use Rattle.weights.specs.Algebra.{Algebra}
 use Rattle.carriers.specs.Carrier.{Link, Carrier}
-use Rattle.carriers.specs.declared.Side.TheVariants.{Inside, Onward}
+use Rattle.carriers.specs.declared.sides.Side.TheVariants.{Inside, Onward}
 use Rattle.stepping.specs.declared.Label.{Label}
 use Rattle.stepping.specs.Labels.{Labels, no_link}
 use Rattle.stepping.specs.View.{View}
 use Rattle.stepping.specs.Candidates.{made}
 use Rattle.stepping.specs.Crossing.{arrival}
-use Rattle.stepping.proofs.Places.{none_some, some_same, nth_below}
-use Rattle.histories.specs.declared.Run.{Run}
+use Rattle.stepping.proofs.Places.{none_some, some_same}
+use Rattle.stepping.specs.declared.Run.{Run}
 use Rattle.histories.specs.declared.Hop.{Hop}
 use Rattle.histories.specs.Expansion.{follow}
 use Rattle.histories.specs.Routes.{LinkAt, hop, Route, arrived, along, onto}
@@ -95,7 +96,7 @@ module _ (A : Algebra) (b : A.Weight) (t : ℕ) (cs : List (Carrier A.Weight)) (
         let v = below i z g in
         let key = length (flat (h ∷ hs)) + k in
         let it = made A (V (h ∷ hs)) p e (length (flat hs) + i) z in
-        let low = nth_below h.run i z g in
+        let low = slice_get_within h.run i z g in
         let len = length-append (flat hs) h.run in
         let entry : z.mark ≡ h.carrier.entry e.head =
         (st.0.ended.sound i z g).marked ∙ (ap h.marks n ∙ ap (λ w. w e.head) en.0) in

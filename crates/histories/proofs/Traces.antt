@@ -8,7 +8,7 @@ use Rattle.stepping.specs.Labels.{Labels}
 use Rattle.stepping.specs.Candidates.{inside, onward}
 use Rattle.stepping.specs.Ways.{destined, linked}
 use Rattle.stepping.proofs.Places.{nth_take}
-use Rattle.histories.specs.declared.Run.{Run}
+use Rattle.stepping.specs.declared.Run.{Run}
 use Rattle.histories.proofs.Layers.{Layer, Stacked, Entries, Agrees}
 use Rattle.histories.proofs.Roots.{Rooted}
 use Rattle.histories.proofs.Traced.{TracedOver, AllTraced, traced_end, traced_along, traced_onto}

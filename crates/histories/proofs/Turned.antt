@@ -1,5 +1,5 @@
 -- What a call may lead to: the cases of a call's rules and of a crossing's outcome, and what a refused call leaves.
-use Rattle.std.proofs.Common.{◌≡◌, ℕ, ◌≤◌, Bool, true, false, cond, eqb, ltb, List, length, Some, None, Ok, Err, Option, Result, sym, refl, ap, ◌∙◌, arith}
+use Rattle.std.proofs.Common.{◌≡◌, ℕ, ◌≤◌, Bool, true, false, cond, eqb, ltb, List, length, Some, None, Ok, Err, Option, sym, refl, ap}
 use Rattle.std.proofs.lemmas.Bool.{or_parts, ltb-false}
 use Rattle.weights.specs.Algebra.{Algebra}
 use Rattle.carriers.specs.Carrier.{Carrier}
@@ -14,12 +14,6 @@ use Rattle.histories.specs.Stages.{Progress, Stage, idle, opened, finished, Afte
 use Rattle.histories.specs.Rules.{refusal, unless, memory_rule, size_rule, open_rules, cross_rules, finish_rules, begun_rules}
 use Rattle.histories.specs.Crossings.{outcome, with_run, written, cleared, crossed}
 use Rattle.histories.specs.Histories.{Call, to_open, to_cross, to_finish, to_withdraw, does}
-
-pub ok_err : {X : Type 0} (x : X) (r : Refusal) {G : Type 0} → ◌≡◌ {A = Result X Refusal} (Ok x) (Err r) → G
-ok_err x r e = absurd (let z : ◌≡◌ {A = ℕ} 0 1 = cc in omega arith)
-
-err_same : {X : Type 0} (r q : Refusal) → ◌≡◌ {A = Result X Refusal} (Err r) (Err q) → r ≡ q
-err_same r q e = cc
 
 pub unless_cases : {X : Type 0} (P : X → Type 0) (o : Option Refusal) (refuse : Refusal → X) (accept : X)
     → ((r : Refusal) → P (refuse r)) → (o ≡ None → P accept) → P (unless o refuse accept)
@@ -70,7 +64,7 @@ module _ (A : Algebra) where
 
   turned_back : {X : Type 0} (s : Stage A.Weight) (m : Labels A) (r q : Refusal)
       → IfRefused {X = X} s m r (refused s m q)
-  turned_back s m r q e = as_was (ap (refused s m) (sym (err_same q r e)))
+  turned_back s m r q e = as_was (ap (refused s m) (cc e))
 
   turned_crossing : {X : Type 0} (p : Progress A.Weight) (m : Labels A) (r : Refusal) (o : Option Refusal)
       (stage : Progress A.Weight → Stage A.Weight) (answer : Labels A → X) (out : Outcome A.Weight)
@@ -81,8 +75,8 @@ module _ (A : Algebra) where
       (turned_back (opened p) m r)
       (λ none.
       crossed_cases p m stage answer If out
-      (λ e. blanked p refl (ap (refused (opened p) (cleared A (used p.runs) m)) (sym (err_same refusals.Full r e))))
-      (λ run q e. ok_err (answer run) r e))
+      (λ e. blanked p refl (ap (refused (opened p) (cleared A (used p.runs) m)) (cc e)))
+      (λ run q e. absurd (cc e)))
 
   turned_withdraw : (p : Progress A.Weight) (s : Stage A.Weight) (m : Labels A) (r : Refusal)
       (a : After A.Weight (Unit {0})) → a.answer ≡ Ok tt
@@ -90,14 +84,14 @@ module _ (A : Algebra) where
   turned_withdraw p s m r a ok =
       unless_cases (IfRefused s m r) (refusal (begun_rules p m)) (refused s m) a
       (turned_back s m r)
-      (λ none e. ok_err tt r (sym ok ∙ e))
+      (λ none e. absurd (cc (ok, e)))
 
   pub turned : (s : Stage A.Weight) (c : Call A.Weight) (m : Labels A) (r : Refusal)
       → IfRefused s m r (does A s c m)
   turned idle (to_open b t) m r =
       unless_cases (IfRefused idle m r) (refusal (open_rules A b m)) (refused idle m) _
       (turned_back idle m r)
-      (λ none e. ok_err tt r e)
+      (λ none e. absurd (cc e))
   turned (opened p) (to_open b t) m r = turned_back (opened p) m r refusals.Stage
   turned (finished p) (to_open b t) m r = turned_back (finished p) m r refusals.Stage
   turned idle (to_cross c) m r = turned_back idle m r refusals.Stage

@@ -6,14 +6,12 @@
 --   on_withdraw A s m      withdraw
 --   routes_of n            n routes are listed, or there is no route
 --   ending v k run         the answer of a finish at v that settled the run, the first label of which has the key k
-use Rattle.std.specs.Prelude.{ℕ, zero, suc, List, [], length, Ok, nat_eq}
+use Rattle.std.specs.Prelude.{ℕ, zero, suc, List, [], length, Ok, nat_eq, Some, None, Option}
 use Rattle.weights.specs.Algebra.{Algebra}
 use Rattle.carriers.specs.Carrier.{Carrier}
 use Rattle.carriers.specs.declared.refusals.Refusal.TheVariants as refusals
 use Rattle.stepping.specs.declared.Label.{Label}
 use Rattle.stepping.specs.Labels.{Labels}
-use Rattle.histories.specs.declared.Routes.{Routes}
-use Rattle.histories.specs.declared.Routes.TheVariants.{NoRoute, Listed}
 use Rattle.histories.specs.declared.Ending.{Ending}
 use Rattle.histories.specs.Runs.{used}
 use Rattle.histories.specs.Stages.{Stage, idle, opened, finished, if_begun, After, refused}
@@ -21,9 +19,9 @@ use Rattle.histories.specs.Rules.{refusal, unless, open_rules, cross_rules, fini
 use Rattle.histories.specs.Lists.{items}
 use Rattle.histories.specs.Crossings.{outcome, blanks, crossed}
 
-abbrev pub routes_of : ℕ → Routes
-routes_of zero = NoRoute
-routes_of (suc n) = Listed (suc n)
+abbrev pub routes_of : ℕ → Option ℕ
+routes_of zero = None
+routes_of (suc n) = Some (suc n)
 
 abbrev pub ending : {W : Type 0} → ℕ → ℕ → List (Label W) → Ending
 ending v k run = record { routes = routes_of (length (items v k run)); settled = length run }

@@ -13,8 +13,8 @@ use Rattle.weights.specs.Algebra.{Algebra}
 use Rattle.weights.specs.Capped.{cut}
 use Rattle.weights.specs.Sums.{top, sums}
 use Rattle.weights.specs.Pairs.{pairs}
-use Rattle.carriers.specs.declared.Side.{Side}
-use Rattle.carriers.specs.declared.Side.TheVariants.{Inside, Onward}
+use Rattle.carriers.specs.declared.sides.Side.{Side}
+use Rattle.carriers.specs.declared.sides.Side.TheVariants.{Inside, Onward}
 use Rattle.carriers.specs.Carrier.{Link, Carrier}
 use Rattle.carriers.specs.declared.refusals.Refusal.{Refusal}
 use Rattle.stepping.specs.declared.Label.{Label}

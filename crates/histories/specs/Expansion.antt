@@ -13,7 +13,7 @@ use Rattle.carriers.specs.declared.refusals.Refusal.{Refusal}
 use Rattle.carriers.specs.declared.refusals.Refusal.TheVariants as refusals
 use Rattle.stepping.specs.declared.Label.{Label}
 use Rattle.stepping.specs.Labels.{no_link}
-use Rattle.histories.specs.declared.Run.{Run}
+use Rattle.stepping.specs.declared.Run.{Run}
 use Rattle.histories.specs.declared.Hop.{Hop}
 use Rattle.histories.specs.Runs.{position}
 use Rattle.histories.specs.Stages.{Progress, Stage, if_begun}

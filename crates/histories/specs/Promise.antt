@@ -13,14 +13,13 @@
 --   Finished, Underway   of every history that ends finished, and of every one that ends open
 --   FinishedAsTold, UnderwayAsTold   the same where calls and answers tell that it ends so
 --   Unchanged            a refused call, handed the request's own labels, leaves all as it was
-use Rattle.std.specs.Prelude.{◌≡◌, ℕ, suc, ◌<◌, ◌≤◌, T, List, ◌++◌, map, length, drop, Some, Ok, Err, ◌≢◌}
+use Rattle.std.specs.Prelude.{◌≡◌, ℕ, suc, ◌<◌, ◌≤◌, T, List, ◌++◌, map, length, drop, Some, Ok, Err, ◌≢◌, None}
 use Rattle.std.specs.Option.{ok_or}
 use Rattle.std.specs.List.{slice_get}
 use Rattle.weights.specs.Algebra.{Algebra}
 use Rattle.carriers.specs.Carrier.{Carrier}
 use Rattle.carriers.specs.declared.refusals.Refusal.{Refusal}
 use Rattle.carriers.specs.declared.refusals.Refusal.TheVariants as refusals
-use Rattle.histories.specs.declared.Routes.TheVariants.{NoRoute, Listed}
 use Rattle.histories.specs.declared.Ending.{Ending}
 use Rattle.histories.specs.declared.Item.{Item}
 use Rattle.histories.specs.declared.Hop.{Hop}
@@ -89,9 +88,9 @@ pub record Promise (A : Algebra) (log : Log A.Weight) (r : State A.Weight) : Typ
   pub finish_was : last_finish log ≡ Some (query.source, ending)
   pub found : Found A query r
   -- the finish answered that there is no route exactly if there is none, and else how many are listed
-  pub none_so : ending.routes ≡ NoRoute → (x : A.Weight) → Routed A query x → ⊥
-  pub none_then : ((x : A.Weight) → Routed A query x → ⊥) → ending.routes ≡ NoRoute
-  pub number : (ending.routes ≢ NoRoute) → ending.routes ≡ Listed (length found.listed)
+  pub none_so : ending.routes ≡ None → (x : A.Weight) → Routed A query x → ⊥
+  pub none_then : ((x : A.Weight) → Routed A query x → ⊥) → ending.routes ≡ None
+  pub number : (ending.routes ≢ None) → ending.routes ≡ Some (length found.listed)
 
 abbrev pub Staged : Algebra → Type 0
 Staged A =

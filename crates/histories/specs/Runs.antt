@@ -5,7 +5,7 @@
 --   position rs k   the position in the chain of the carrier whose crossing settled the label with the key k, that
 --                   is, how many crossings came before
 use Rattle.std.specs.Prelude.{ℕ, ◌+◌, cond, List, [], ◌∷◌, length, take, drop, nat_lt}
-use Rattle.histories.specs.declared.Run.{Run}
+use Rattle.stepping.specs.declared.Run.{Run}
 
 abbrev pub latest : List Run → Run
 latest [] = record { start = 0; length = 0 }

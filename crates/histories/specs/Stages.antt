@@ -9,7 +9,7 @@
 use Rattle.std.specs.Prelude.{ℕ, List, [], ◌∷◌, Some, None, Err, Option, Result}
 use Rattle.carriers.specs.declared.refusals.Refusal.{Refusal}
 use Rattle.stepping.specs.declared.Label.{Label}
-use Rattle.histories.specs.declared.Run.{Run}
+use Rattle.stepping.specs.declared.Run.{Run}
 
 pub record Progress (W : Type 0) : Type 0 where
   pub bounds : W

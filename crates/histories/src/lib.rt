@@ -7,24 +7,11 @@ ghost use Rattle.histories.specs.Worked.{Worked};
 
 use weights::Kind;
 
-// Where the labels of one crossing stand in the memory.
-#[derive(Clone, Copy)]
-pub struct Run {
-    pub start: usize,
-    pub length: usize,
-}
-
-// How many routes are listed at the source of a finish.
-#[derive(Clone, Copy)]
-pub enum Routes {
-    NoRoute,
-    Listed(usize),
-}
-
-// What a finish answers: how many routes are listed, and how many labels it settled.
-#[derive(Clone, Copy)]
+// What a finish answers: how many routes are listed at its source, `None` where there is no route, and how many labels
+// it settled.
+#[derive(Clone, Copy, PartialEq, Eq, Debug)]
 pub struct Ending {
-    pub routes: Routes,
+    pub routes: Option<usize>,
     pub settled: usize,
 }
 
@@ -37,7 +24,7 @@ pub struct Item<W> {
 
 // A hop of a route: the place of its link, and the position of the link's carrier in the chain. The
 // destination's carrier has position 0.
-#[derive(Clone, Copy)]
+#[derive(Clone, Copy, PartialEq, Eq, Debug)]
 pub struct Hop {
     pub position: usize,
     pub link: u16,

@@ -1,28 +1,54 @@
 // The calls of a jumbled list and what they answer, with the words for both.
 
-use crate::costs::{Amounts, Cost};
-use crate::maps::Choice;
+use crate::maps::AnyMap;
+use answers::{Ended, Settled};
 use carriers::Refusal;
-use histories::{Ending, Routes};
+use costs::{Amounts, Cost};
+use histories::Ending;
+use requests::Request;
 use std::fmt;
+use stepping::Label;
 
 // A call with its values, but for the memory.
 #[derive(Clone, Copy)]
-pub(crate) enum Call {
+pub(crate) enum Call<'a> {
     Open { bounds: Cost, destination: u16 },
-    Cross(Choice),
-    Finish { map: Choice, source: u16 },
+    Cross(AnyMap<'a>),
+    Finish { map: AnyMap<'a>, source: u16 },
     Withdraw,
 }
 
-impl fmt::Display for Call {
+impl Call<'_> {
+    // Makes the call on the request, in this memory.
+    pub(crate) fn make(
+        self,
+        request: &mut Request<Cost>,
+        memory: &mut [Label<Cost>],
+    ) -> Result<Answer, Refusal> {
+        match self {
+            Call::Open {
+                bounds,
+                destination,
+            } => request
+                .open(bounds, destination, memory)
+                .map(|()| Answer::Opened),
+            Call::Cross(map) => request.cross(&map, memory).map(Answer::Crossed),
+            Call::Finish { map, source } => {
+                request.finish(&map, source, memory).map(Answer::Finished)
+            }
+            Call::Withdraw => request.withdraw(memory).map(|()| Answer::Withdrawn),
+        }
+    }
+}
+
+impl fmt::Display for Call<'_> {
     fn fmt<W: fmt::Write>(&self, f: &mut fmt::Formatter<W>) -> fmt::Result {
-        match *self {
+        match self {
             Call::Open {
                 bounds,
                 destination,
             } => {
-                let bounds = Amounts(bounds);
+                let bounds = Amounts(*bounds);
                 write!(f, "open within {bounds} to node {destination}")
             }
             Call::Cross(map) => write!(f, "cross {map}"),
@@ -45,14 +71,8 @@ impl fmt::Display for Answer {
     fn fmt<W: fmt::Write>(&self, f: &mut fmt::Formatter<W>) -> fmt::Result {
         match *self {
             Answer::Opened | Answer::Withdrawn => write!(f, "accepted"),
-            Answer::Crossed(settled) => write!(f, "{settled} settled"),
-            Answer::Finished(ending) => {
-                let settled = ending.settled;
-                match ending.routes {
-                    Routes::NoRoute => write!(f, "no route, {settled} settled"),
-                    Routes::Listed(count) => write!(f, "{count} listed, {settled} settled"),
-                }
-            }
+            Answer::Crossed(settled) => write!(f, "{}", Settled(settled)),
+            Answer::Finished(ending) => write!(f, "{}", Ended(ending)),
         }
     }
 }

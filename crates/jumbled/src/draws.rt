@@ -1,8 +1,10 @@
 // The draws: a small generator of numbers, and the calls that it jumbles.
 
 use crate::calls::Call;
-use crate::costs::{Cost, cost};
-use crate::maps::{Choice, Row, Which};
+use crate::maps::{AnyMap, Books};
+use books::Book;
+use carriers::{Fence, Line};
+use costs::{Cost, cost};
 
 // How far the request has come, as the list keeps account of it.
 #[derive(Clone, Copy)]
@@ -13,6 +15,16 @@ pub(crate) enum Standing {
     Finished,
 }
 
+impl Standing {
+    // Where in the chain a call puts its map: at the start, or at the spot that is its own once a map was crossed.
+    fn spot(self, own: Spot) -> Spot {
+        match self {
+            Standing::Crossed => own,
+            _ => Spot::First,
+        }
+    }
+}
+
 // Where in the chain a map stands, the destination's first.
 #[derive(Clone, Copy)]
 enum Spot {
@@ -21,24 +33,16 @@ enum Spot {
     Last,
 }
 
-// The calls by name.
-#[derive(Clone, Copy)]
-enum Name {
-    Open,
-    Cross,
-    Finish,
-    Withdraw,
-}
-
-// A linear congruential generator.
+// A linear congruential generator, and the books that it draws from. Each draw goes by a remainder of the next number.
 #[derive(Drop)]
-pub(crate) struct Dice {
+pub(crate) struct Dice<'a> {
     state: u32,
+    books: Books<'a>,
 }
 
-impl Dice {
-    pub(crate) fn new(seed: u32) -> Dice {
-        Dice { state: seed }
+impl<'a> Dice<'a> {
+    pub(crate) fn new(seed: u32, books: Books<'a>) -> Dice<'a> {
+        Dice { state: seed, books }
     }
 
     // The next number: the higher 16 bits of the state.
@@ -56,47 +60,51 @@ impl Dice {
     }
 
     // A call with its values. Three in four are calls that the request may accept.
-    pub(crate) fn call(&mut self, standing: Standing) -> Call {
-        match self.name(standing) {
-            Name::Open => Call::Open {
-                bounds: self.bounds(),
-                destination: self.destination(),
-            },
-            Name::Cross => Call::Cross(self.map(cross_spot(standing))),
-            Name::Finish => Call::Finish {
-                map: self.map(finish_spot(standing)),
-                source: self.source(),
-            },
-            Name::Withdraw => Call::Withdraw,
-        }
-    }
-
-    fn name(&mut self, standing: Standing) -> Name {
+    pub(crate) fn call(&mut self, standing: Standing) -> Call<'a> {
         if self.next() % 4 == 0 {
-            return self.any_name();
+            return self.any_call(standing);
         }
         match standing {
-            Standing::Idle => Name::Open,
-            Standing::Opened | Standing::Crossed => self.open_name(),
-            Standing::Finished => Name::Withdraw,
+            Standing::Idle => self.open(),
+            Standing::Opened | Standing::Crossed => self.open_call(standing),
+            Standing::Finished => Call::Withdraw,
         }
     }
 
-    fn any_name(&mut self) -> Name {
+    // It and open_call draw by other odds, and one function with a table of odds would be no plainer.
+    fn any_call(&mut self, standing: Standing) -> Call<'a> {
         match self.next() % 8 {
-            0 | 1 => Name::Open,
-            2..=4 => Name::Cross,
-            5 | 6 => Name::Finish,
-            _ => Name::Withdraw,
+            0 | 1 => self.open(),
+            2..=4 => self.cross(standing),
+            5 | 6 => self.finish(standing),
+            _ => Call::Withdraw,
         }
     }
 
     // A call that an open request may accept.
-    fn open_name(&mut self) -> Name {
+    fn open_call(&mut self, standing: Standing) -> Call<'a> {
         match self.next() % 8 {
-            0..=4 => Name::Cross,
-            5 | 6 => Name::Finish,
-            _ => Name::Withdraw,
+            0..=4 => self.cross(standing),
+            5 | 6 => self.finish(standing),
+            _ => Call::Withdraw,
+        }
+    }
+
+    fn open(&mut self) -> Call<'a> {
+        Call::Open {
+            bounds: self.bounds(),
+            destination: self.destination(),
+        }
+    }
+
+    fn cross(&mut self, standing: Standing) -> Call<'a> {
+        Call::Cross(self.map(standing.spot(Spot::Middle)))
+    }
+
+    fn finish(&mut self, standing: Standing) -> Call<'a> {
+        Call::Finish {
+            map: self.map(standing.spot(Spot::Last)),
+            source: self.source(),
         }
     }
 
@@ -110,7 +118,7 @@ impl Dice {
         cost(delay, 8 + self.next() % 16)
     }
 
-    // A destination, one in sixteen no node of any map.
+    // A destination, one in sixteen no node of any map. The odds are other than a source's.
     fn destination(&mut self) -> u16 {
         match self.next() % 16 {
             0..=4 => 0,
@@ -131,29 +139,37 @@ impl Dice {
     }
 
     // Three in four in the middle of a chain are lines, so that many routes go on.
-    fn map(&mut self, spot: Spot) -> Choice {
+    fn map(&mut self, spot: Spot) -> AnyMap<'a> {
         match spot {
-            Spot::Middle if self.next() % 4 != 0 => Choice::Line(self.row()),
+            Spot::Middle if self.next() % 4 != 0 => AnyMap::Line(self.line()),
             _ => self.any_map(spot),
         }
     }
 
-    fn any_map(&mut self, spot: Spot) -> Choice {
+    fn any_map(&mut self, spot: Spot) -> AnyMap<'a> {
         match self.next() % 4 {
-            0 => Choice::Line(self.row()),
-            1 => Choice::FencedLine(self.row(), self.limit()),
-            2 => Choice::Book(self.book(spot)),
-            _ => Choice::FencedBook(self.book(spot), self.limit()),
+            0 => AnyMap::Line(self.line()),
+            1 => AnyMap::FencedLine(Fence {
+                map: self.line(),
+                limit: self.limit(),
+            }),
+            2 => {
+                let (position, book) = self.book(spot);
+                AnyMap::Book(position, book)
+            }
+            _ => {
+                let (position, map) = self.book(spot);
+                let limit = self.limit();
+                AnyMap::FencedBook(position, Fence { map, limit })
+            }
         }
     }
 
-    fn row(&mut self) -> Row {
-        let nodes = (1 + self.next() % 4) as u16;
+    fn line(&mut self) -> Line<Cost> {
+        let nodes = (1 + self.next() % 4) as usize;
         let delay = self.next() % 3;
-        Row {
-            nodes,
-            weight: cost(delay, self.next() % 3),
-        }
+        let weight = cost(delay, self.next() % 3);
+        Line::new(nodes, weight).unwrap()
     }
 
     fn limit(&mut self) -> Cost {
@@ -161,27 +177,12 @@ impl Dice {
         cost(delay, 2 + self.next() % 4)
     }
 
-    // Book 0 leads nowhere onward and book 1 has no entry, so each is mostly drawn where routes can use it.
-    fn book(&mut self, spot: Spot) -> Which {
+    // A book with its position. Book 0 leads nowhere onward and book 1 has no entry, so each is mostly drawn where
+    // routes can use it.
+    fn book(&mut self, spot: Spot) -> (usize, Book<'a>) {
         match (spot, self.next() % 4) {
-            (Spot::First, 1..) | (Spot::Middle | Spot::Last, 0) => Which::First,
-            _ => Which::Second,
+            (Spot::First, 1..) | (Spot::Middle | Spot::Last, 0) => (0, self.books.first),
+            _ => (1, self.books.second),
         }
-    }
-}
-
-// Where in the chain a cross puts its map.
-fn cross_spot(standing: Standing) -> Spot {
-    match standing {
-        Standing::Crossed => Spot::Middle,
-        _ => Spot::First,
-    }
-}
-
-// Where in the chain a finish puts its map.
-fn finish_spot(standing: Standing) -> Spot {
-    match standing {
-        Standing::Crossed => Spot::Last,
-        _ => Spot::First,
     }
 }

@@ -4,7 +4,6 @@
 #![tactic(auto)]
 
 mod calls;
-mod costs;
 mod draws;
 mod maps;
 mod routes;
@@ -12,25 +11,21 @@ mod session;
 mod tallies;
 
 use books::Chain;
+use input::chain_file;
 use maps::Books;
 use std::io;
-use std::io::Read;
-
-// One byte more than a chain file may have: what follows makes no difference to the refusal.
-const ENOUGH: u64 = 65_537;
 
 fn main(rt: HostRuntime) -> io::Result<()> {
-    let mut bytes = Vec::new(rt.alloc());
-    rt.stdin().take(ENOUGH).read_to_end(&mut bytes)?;
+    let bytes = chain_file(&rt)?;
     match Chain::read(bytes.as_slice()) {
         Ok(chain) => jumbled(&rt, &chain),
         Err(refusal) => println!(rt; "refused {refusal}"),
     }
 }
 
-fn jumbled(rt: &impl Print, chain: &Chain) -> io::Result<()> {
-    let (Some(first), Some(second)) = (chain.book(0), chain.book(1)) else {
-        return println!(rt; "the chain has only one carrier");
-    };
-    session::calls(rt, Books { first, second })
+fn jumbled(rt: &(impl Print + AllocGlobal), chain: &Chain) -> io::Result<()> {
+    match Books::of(chain) {
+        Some(books) => session::calls(rt, books),
+        None => println!(rt; "the chain has only one carrier"),
+    }
 }

@@ -1,12 +1,11 @@
 // The maps of several sorts that the jumbled calls cross.
 
-use crate::costs::{Amounts, Cost};
-use books::Book;
-use carriers::{Fence, Line, Map, Refusal, Side};
-use histories::Ending;
-use requests::Request;
+ghost use Rattle.jumbled.specs.declared.maps.AnyMap.TheVariants.{Line, FencedLine, Book, FencedBook};
+
+use books::{Book, Chain};
+use carriers::{Fence, Line, Map, Side};
+use costs::{Amounts, Cost};
 use std::fmt;
-use stepping::Label;
 
 // The two books of the sample chain.
 #[derive(Clone, Copy)]
@@ -15,166 +14,113 @@ pub(crate) struct Books<'a> {
     pub(crate) second: Book<'a>,
 }
 
-// Which of the two books.
-#[derive(Clone, Copy)]
-pub(crate) enum Which {
-    First,
-    Second,
-}
-
 impl<'a> Books<'a> {
-    fn get(&self, which: Which) -> Book<'a> {
-        match which {
-            Which::First => self.first,
-            Which::Second => self.second,
+    // None where the chain has only one carrier.
+    pub(crate) fn of(chain: &Chain<'a>) -> Option<Books<'a>> {
+        Some(Books {
+            first: chain.book(0)?,
+            second: chain.book(1)?,
+        })
+    }
+}
+
+// A line, or a book with its position in the sample chain, each as it is or behind a fence.
+#[derive(Clone, Copy)]
+pub(crate) enum AnyMap<'a> {
+    Line(Line<Cost>),
+    FencedLine(Fence<Line<Cost>, Cost>),
+    Book(usize, Book<'a>),
+    FencedBook(usize, Fence<Book<'a>, Cost>),
+}
+
+impl AnyMap<'_> {
+    // The limit of the fence, if there is one.
+    fn limit(&self) -> Option<Cost> {
+        match self {
+            AnyMap::Line(_) | AnyMap::Book(..) => None,
+            AnyMap::FencedLine(fence) => Some(fence.limit),
+            AnyMap::FencedBook(_, fence) => Some(fence.limit),
         }
     }
 }
 
-impl fmt::Display for Which {
+// Each question is passed on to the map that it is. Map can be no dyn here: a request's calls take a type parameter.
+impl Map<Cost> for AnyMap<'_> {
+    ghost carrier = { elim [
+      | Line l ↦ ⟦<Line<Cost> as Map<Cost>>⟧.carrier l
+      | FencedLine f ↦ ⟦<Fence<Line<Cost>, Cost> as Map<Cost>>⟧.carrier f
+      | Book i b ↦ ⟦<Book<'static> as Map<Cost>>⟧.carrier b
+      | FencedBook i f ↦ ⟦<Fence<Book<'static>, Cost> as Map<Cost>>⟧.carrier f
+    ] };
+
+    ghost sound = { elim [
+      | Line l ↦ ⟦<Line<Cost> as Map<Cost>>⟧.sound l
+      | FencedLine f ↦ ⟦<Fence<Line<Cost>, Cost> as Map<Cost>>⟧.sound f
+      | Book i b ↦ ⟦<Book<'static> as Map<Cost>>⟧.sound b
+      | FencedBook i f ↦ ⟦<Fence<Book<'static>, Cost> as Map<Cost>>⟧.sound f
+    ] };
+
+    fn node_count(&self) -> usize {
+        match self {
+            AnyMap::Line(line) => line.node_count(),
+            AnyMap::FencedLine(fence) => fence.node_count(),
+            AnyMap::Book(_, book) => Map::<Cost>::node_count(book),
+            AnyMap::FencedBook(_, fence) => fence.node_count(),
+        }
+    }
+
+    fn place_count(&self) -> usize {
+        match self {
+            AnyMap::Line(line) => line.place_count(),
+            AnyMap::FencedLine(fence) => fence.place_count(),
+            AnyMap::Book(_, book) => Map::<Cost>::place_count(book),
+            AnyMap::FencedBook(_, fence) => fence.place_count(),
+        }
+    }
+
+    fn is_entry(&self, node: u16) -> bool {
+        match self {
+            AnyMap::Line(line) => line.is_entry(node),
+            AnyMap::FencedLine(fence) => fence.is_entry(node),
+            AnyMap::Book(_, book) => Map::<Cost>::is_entry(book, node),
+            AnyMap::FencedBook(_, fence) => fence.is_entry(node),
+        }
+    }
+
+    fn link(&self, place: usize) -> Option<(u16, Side, u16)> {
+        match self {
+            AnyMap::Line(line) => line.link(place),
+            AnyMap::FencedLine(fence) => fence.link(place),
+            AnyMap::Book(_, book) => Map::<Cost>::link(book, place),
+            AnyMap::FencedBook(_, fence) => fence.link(place),
+        }
+    }
+
+    fn weight(&self, place: usize) -> Cost {
+        match self {
+            AnyMap::Line(line) => line.weight(place),
+            AnyMap::FencedLine(fence) => fence.weight(place),
+            AnyMap::Book(_, book) => book.weight(place),
+            AnyMap::FencedBook(_, fence) => fence.weight(place),
+        }
+    }
+}
+
+// A line is written with its nodes and with the weight that all its links have.
+impl fmt::Display for AnyMap<'_> {
     fn fmt<W: fmt::Write>(&self, f: &mut fmt::Formatter<W>) -> fmt::Result {
         match self {
-            Which::First => write!(f, "book 0"),
-            Which::Second => write!(f, "book 1"),
-        }
-    }
-}
-
-// What a line is made from.
-#[derive(Clone, Copy)]
-pub(crate) struct Row {
-    pub(crate) nodes: u16,
-    pub(crate) weight: Cost,
-}
-
-impl Row {
-    fn line(self) -> Result<Line<Cost>, Refusal> {
-        Line::new(usize::from(self.nodes), self.weight)
-    }
-}
-
-impl fmt::Display for Row {
-    fn fmt<W: fmt::Write>(&self, f: &mut fmt::Formatter<W>) -> fmt::Result {
-        let nodes = self.nodes;
-        let weight = Amounts(self.weight);
-        write!(f, "line (nodes {nodes}, {weight})")
-    }
-}
-
-// A map of one of four sorts. A fence has its limit.
-#[derive(Clone, Copy)]
-pub(crate) enum Choice {
-    Line(Row),
-    FencedLine(Row, Cost),
-    Book(Which),
-    FencedBook(Which, Cost),
-}
-
-impl fmt::Display for Choice {
-    fn fmt<W: fmt::Write>(&self, f: &mut fmt::Formatter<W>) -> fmt::Result {
-        match *self {
-            Choice::Line(row) => write!(f, "{row}"),
-            Choice::FencedLine(row, limit) => {
-                let limit = Amounts(limit);
-                write!(f, "{row} behind fence ({limit})")
+            AnyMap::Line(line) | AnyMap::FencedLine(Fence { map: line, .. }) => {
+                let weight = Amounts(line.weight(0));
+                write!(f, "line (nodes {}, {weight})", line.node_count())?;
             }
-            Choice::Book(which) => write!(f, "{which}"),
-            Choice::FencedBook(which, limit) => {
-                let limit = Amounts(limit);
-                write!(f, "{which} behind fence ({limit})")
+            AnyMap::Book(position, _) | AnyMap::FencedBook(position, _) => {
+                write!(f, "book {position}")?;
             }
         }
-    }
-}
-
-// A link with its weight.
-#[derive(Clone, Copy)]
-pub(crate) struct Link {
-    pub(crate) tail: u16,
-    pub(crate) side: Side,
-    pub(crate) head: u16,
-    pub(crate) weight: Cost,
-}
-
-fn link_of<M: Map<Cost>>(map: &M, place: usize) -> Option<Link> {
-    let (tail, side, head) = map.link(place)?;
-    Some(Link {
-        tail,
-        side,
-        head,
-        weight: map.weight(place),
-    })
-}
-
-impl Choice {
-    pub(crate) fn cross(
-        self,
-        books: &Books,
-        request: &mut Request<Cost>,
-        memory: &mut [Label<Cost>],
-    ) -> Result<usize, Refusal> {
-        match self {
-            Choice::Line(row) => request.cross(&row.line()?, memory),
-            Choice::FencedLine(row, limit) => {
-                let map = row.line()?;
-                request.cross(&Fence { map, limit }, memory)
-            }
-            Choice::Book(which) => request.cross(&books.get(which), memory),
-            Choice::FencedBook(which, limit) => {
-                let map = books.get(which);
-                request.cross(&Fence { map, limit }, memory)
-            }
-        }
-    }
-
-    pub(crate) fn finish(
-        self,
-        books: &Books,
-        source: u16,
-        request: &mut Request<Cost>,
-        memory: &mut [Label<Cost>],
-    ) -> Result<Ending, Refusal> {
-        match self {
-            Choice::Line(row) => request.finish(&row.line()?, source, memory),
-            Choice::FencedLine(row, limit) => {
-                let map = row.line()?;
-                request.finish(&Fence { map, limit }, source, memory)
-            }
-            Choice::Book(which) => request.finish(&books.get(which), source, memory),
-            Choice::FencedBook(which, limit) => {
-                let map = books.get(which);
-                request.finish(&Fence { map, limit }, source, memory)
-            }
-        }
-    }
-
-    pub(crate) fn link(self, books: &Books, place: usize) -> Option<Link> {
-        match self {
-            Choice::Line(row) => link_of(&row.line().ok()?, place),
-            Choice::FencedLine(row, limit) => {
-                let map = row.line().ok()?;
-                link_of(&Fence { map, limit }, place)
-            }
-            Choice::Book(which) => link_of(&books.get(which), place),
-            Choice::FencedBook(which, limit) => {
-                let map = books.get(which);
-                link_of(&Fence { map, limit }, place)
-            }
-        }
-    }
-
-    pub(crate) fn node_count(self, books: &Books) -> u16 {
-        match self {
-            Choice::Line(row) | Choice::FencedLine(row, _) => row.nodes,
-            Choice::Book(which) | Choice::FencedBook(which, _) => books.get(which).node_count(),
-        }
-    }
-
-    // Node 0 is a line's only entry. A fence changes no entry.
-    pub(crate) fn is_entry(self, books: &Books, node: u16) -> bool {
-        match self {
-            Choice::Line(_) | Choice::FencedLine(_, _) => node == 0,
-            Choice::Book(which) | Choice::FencedBook(which, _) => books.get(which).is_entry(node),
+        match self.limit() {
+            Some(limit) => write!(f, " behind fence ({})", Amounts(limit)),
+            None => Ok(()),
         }
     }
 }

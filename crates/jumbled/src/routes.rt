@@ -1,55 +1,46 @@
 // Routes hop by hop: the chain that a request has crossed, and the weight of a route summed again.
 
-use crate::costs::{Amounts, Cost, cost};
-use crate::maps::{Books, Choice, Which};
-use carriers::Side;
+use crate::maps::AnyMap;
+use carriers::{Map, Side};
+use costs::{Amounts, Cost, cost};
 use histories::Hop;
-use std::{fmt, io};
+use std::alloc::{AllocError, Global};
+use std::fmt;
 use weights::Kind;
 
-// The maps accepted since the request was opened, the first `count` of the array, the destination's first.
-#[derive(Clone, Copy)]
-pub(crate) struct Passed {
+// The maps accepted since the request was opened, the destination's first.
+#[derive(Drop)]
+pub(crate) struct Passed<'a> {
     destination: u16,
-    maps: [Choice; 16],
-    count: usize,
+    maps: Vec<AnyMap<'a>>,
 }
 
-impl Passed {
-    pub(crate) fn new(destination: u16) -> Passed {
+impl<'a> Passed<'a> {
+    pub(crate) fn new(alloc: Global, destination: u16) -> Passed<'a> {
         Passed {
             destination,
-            maps: [Choice::Book(Which::First); 16],
-            count: 0,
+            maps: Vec::new(alloc),
         }
     }
 
-    pub(crate) fn push(&mut self, map: Choice) {
-        if self.count < 16 {
-            self.maps[self.count] = map;
-            self.count += 1;
-        }
-    }
-
-    fn get(&self, position: usize) -> Option<Choice> {
-        self.maps.iter().take(self.count).nth(position).copied()
+    pub(crate) fn push(&mut self, map: AnyMap<'a>) -> Result<(), AllocError> {
+        self.maps.push(map)?;
+        Ok(())
     }
 
     // The weight of the route with these hops from the node of the latest carrier; none where they do not connect.
-    pub(crate) fn sum(&self, books: &Books, node: u16, hops: &[Hop]) -> Option<Cost> {
-        let mut walk = Walk {
+    pub(crate) fn sum(&self, node: u16, hops: &[Hop]) -> Option<Cost> {
+        let start = Walk {
             position: 0,
             node: self.destination,
             weight: cost(0, 0),
         };
-        for hop in hops.iter().rev() {
-            walk = walk.back(books, self, *hop)?;
-        }
-        if walk.node == node && walk.position.checked_add(1) == Some(self.count) {
-            Some(walk.weight)
-        } else {
-            None
-        }
+        let walk = hops
+            .iter()
+            .rev()
+            .try_fold(start, |walk, hop| walk.back(self, *hop))?;
+        let whole = walk.node == node && self.maps.len().checked_sub(1) == Some(walk.position);
+        whole.then_some(walk.weight)
     }
 }
 
@@ -63,27 +54,27 @@ struct Walk {
 
 impl Walk {
     // One hop further back; none where the hop does not lead to the walk's node, or leads onward to no entry.
-    fn back(self, books: &Books, passed: &Passed, hop: Hop) -> Option<Walk> {
-        let link = passed
-            .get(hop.position)?
-            .link(books, usize::from(hop.link))?;
-        let position = match link.side {
+    fn back(self, passed: &Passed, hop: Hop) -> Option<Walk> {
+        let map = passed.maps.get(hop.position)?;
+        let place = usize::from(hop.link);
+        let (tail, side, head) = map.link(place)?;
+        let position = match side {
             Side::Inside => hop.position,
             Side::Onward => {
                 let onto = hop.position.checked_sub(1)?;
-                if !passed.get(onto)?.is_entry(books, link.head) {
+                if !passed.maps.get(onto)?.is_entry(head) {
                     return None;
                 }
                 onto
             }
         };
-        if position != self.position || link.head != self.node {
+        if position != self.position || head != self.node {
             return None;
         }
         Some(Walk {
             position: hop.position,
-            node: link.tail,
-            weight: link.weight.join(self.weight),
+            node: tail,
+            weight: map.weight(place).join(self.weight),
         })
     }
 }
@@ -97,6 +88,7 @@ pub(crate) enum Verdict {
 }
 
 impl Verdict {
+    // A sum is as listed where the two mean the same weight.
     pub(crate) fn new(sum: Option<Cost>, listed: Cost) -> Verdict {
         match sum {
             Some(sum) if sum.as_good(listed) && listed.as_good(sum) => Verdict::AsListed(sum),
@@ -109,30 +101,28 @@ impl Verdict {
 impl fmt::Display for Verdict {
     fn fmt<W: fmt::Write>(&self, f: &mut fmt::Formatter<W>) -> fmt::Result {
         match *self {
-            Verdict::AsListed(sum) => {
-                let sum = Amounts(sum);
-                write!(f, "{sum}, as listed")
-            }
+            Verdict::AsListed(sum) => write!(f, "{}, as listed", Amounts(sum)),
             Verdict::NotAsListed { sum, listed } => {
-                let sum = Amounts(sum);
-                let listed = Amounts(listed);
-                write!(f, "{sum}, NOT AS LISTED {listed}")
+                write!(f, "{}, NOT AS LISTED {}", Amounts(sum), Amounts(listed))
             }
             Verdict::NotConnected => write!(f, "NOT CONNECTED"),
         }
     }
 }
 
-// Prints the hops, with a comma between two of them.
-pub(crate) fn print_hops(rt: &impl Print, hops: &[Hop]) -> io::Result<()> {
-    if hops.is_empty() {
-        return print!(rt; "no hop");
+// The hops of a route, with a comma between two of them.
+#[derive(Clone, Copy)]
+pub(crate) struct Hops<'a>(pub(crate) &'a [Hop]);
+
+impl fmt::Display for Hops<'_> {
+    fn fmt<W: fmt::Write>(&self, f: &mut fmt::Formatter<W>) -> fmt::Result {
+        let Some((first, others)) = self.0.split_first() else {
+            return write!(f, "no hop");
+        };
+        write!(f, "carrier {} link {}", first.position, first.link)?;
+        for hop in others {
+            write!(f, ", carrier {} link {}", hop.position, hop.link)?;
+        }
+        Ok(())
     }
-    for (i, hop) in hops.iter().enumerate() {
-        let comma = if i == 0 { "" } else { ", " };
-        let position = hop.position;
-        let link = hop.link;
-        print!(rt; "{comma}carrier {position} link {link}")?;
-    }
-    Ok(())
 }

@@ -1,7 +1,9 @@
 // The tally of a jumbled list: its calls by their answers, and what became of the listed keys.
 
+use crate::calls::Answer;
 use crate::routes::Verdict;
 use carriers::Refusal;
+use std::alloc::{AllocError, Global};
 use std::io;
 
 // The refusals that open, cross, finish and withdraw answer.
@@ -15,77 +17,76 @@ const ANSWERED: [Refusal; 7] = [
     Refusal::Full,
 ];
 
-// How often each came: `refused` has a count for each of the refusals above.
+// What each call answered, and the verdict on each key that was expanded.
 #[derive(Drop)]
 pub(crate) struct Tally {
-    calls: usize,
-    accepted: usize,
-    refused: [usize; 7],
+    answers: Vec<Result<Answer, Refusal>>,
     lists: usize,
-    expanded: usize,
-    differing: usize,
-    disconnected: usize,
+    verdicts: Vec<Verdict>,
 }
 
 impl Tally {
-    pub(crate) fn new() -> Tally {
+    pub(crate) fn new(alloc: Global) -> Tally {
         Tally {
-            calls: 0,
-            accepted: 0,
-            refused: [0; 7],
+            answers: Vec::new(alloc),
             lists: 0,
-            expanded: 0,
-            differing: 0,
-            disconnected: 0,
+            verdicts: Vec::new(alloc),
         }
     }
 
-    pub(crate) fn accept(&mut self) {
-        self.calls = self.calls.saturating_add(1);
-        self.accepted = self.accepted.saturating_add(1);
+    pub(crate) fn answer(&mut self, answer: Result<Answer, Refusal>) -> Result<(), AllocError> {
+        self.answers.push(answer)?;
+        Ok(())
     }
 
-    pub(crate) fn refuse(&mut self, refusal: Refusal) {
-        self.calls = self.calls.saturating_add(1);
-        for (count, answered) in self.refused.iter_mut().zip(ANSWERED) {
-            if answered == refusal {
-                *count = count.saturating_add(1);
-            }
-        }
-    }
-
+    // Saturating, since nothing bounds how many lists a tally counts.
     pub(crate) fn list(&mut self) {
         self.lists = self.lists.saturating_add(1);
     }
 
-    pub(crate) fn expand(&mut self, verdict: Verdict) {
-        self.expanded = self.expanded.saturating_add(1);
-        match verdict {
-            Verdict::AsListed(_) => {}
-            Verdict::NotAsListed { .. } => self.differing = self.differing.saturating_add(1),
-            Verdict::NotConnected => self.disconnected = self.disconnected.saturating_add(1),
-        }
+    pub(crate) fn expand(&mut self, verdict: Verdict) -> Result<(), AllocError> {
+        self.verdicts.push(verdict)?;
+        Ok(())
     }
 
     pub(crate) fn print(&self, rt: &impl Print) -> io::Result<()> {
-        let calls = self.calls;
-        let accepted = self.accepted;
-        let refused = calls.saturating_sub(accepted);
-        println!(rt; "{calls} calls: {accepted} accepted, {refused} refused")?;
-        self.print_refused(rt)?;
-        let lists = self.lists;
-        let expanded = self.expanded;
-        println!(rt; "{lists} lists, {expanded} keys expanded")?;
-        let differing = self.differing;
+        self.print_answers(rt)?;
+        println!(rt;
+            "{} lists, {} keys expanded",
+            self.lists,
+            self.verdicts.len()
+        )?;
+        let differing = self
+            .verdicts
+            .iter()
+            .filter(|verdict| matches!(verdict, Verdict::NotAsListed { .. }))
+            .count();
         println!(rt; "sums that differ: {differing}")?;
-        let disconnected = self.disconnected;
+        let disconnected = self
+            .verdicts
+            .iter()
+            .filter(|verdict| matches!(verdict, Verdict::NotConnected))
+            .count();
         println!(rt; "routes that do not connect: {disconnected}")
     }
 
-    fn print_refused(&self, rt: &impl Print) -> io::Result<()> {
-        for (count, refusal) in self.refused.iter().zip(ANSWERED) {
-            println!(rt; "  refused {refusal}: {count}")?;
+    fn print_answers(&self, rt: &impl Print) -> io::Result<()> {
+        let accepted = self.answers.iter().filter(|answer| answer.is_ok()).count();
+        let refused = self.answers.iter().filter(|answer| answer.is_err()).count();
+        println!(rt;
+            "{} calls: {accepted} accepted, {refused} refused",
+            self.answers.len()
+        )?;
+        for refusal in ANSWERED {
+            println!(rt; "  refused {refusal}: {}", self.refused_for(refusal))?;
         }
         Ok(())
+    }
+
+    fn refused_for(&self, refusal: Refusal) -> usize {
+        self.answers
+            .iter()
+            .filter(|answer| answer.err() == Some(refusal))
+            .count()
     }
 }

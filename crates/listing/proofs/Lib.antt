@@ -1,4 +1,3 @@
-pub mod Journeys
 pub mod Lines
 pub mod Written
 pub mod Unfenced

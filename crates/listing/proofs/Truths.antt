@@ -17,6 +17,7 @@ use Rattle.books.specs.declared.bounds.Bounds.{Bounds}
 use Rattle.books.specs.declared.bounds.Bounds.TheVariants.{Delay, DelayFee, All}
 use Rattle.books.specs.BookCarrier.{book_carrier}
 use Rattle.listing.specs.Calls.{plain, behind}
+use Rattle.listing.specs.Found.{found_of}
 use Rattle.listing.specs.Listing.{by_selection, listed_text, selected_text, verdict_text}
 use Rattle.listing.specs.Truth.{query, TrueOfChain, TrueVerdict, TrueListing}
 use Rattle.listing.proofs.Unfenced.{Within, fence_within, routed_within, routed_from, says_same}
@@ -30,7 +31,7 @@ module _ {W : Type 0} (A : Algebra) (laws : Laws A) (f : W → A.Weight) (reads 
   fences b = fence_within A f w (meant reads (book_carrier b))
 
   true_chain : TrueOfChain A f reads t w c (listed_text A f reads t w c)
-  unfolding listed_text
+  unfolding found_of
   true_chain =
       ⊎_elim
       inl

@@ -1,5 +1,5 @@
 -- A fence at the bounds takes no route away that is within them.
-use Rattle.std.proofs.Common.{◌≡◌, ℕ, suc, Bool, true, false, T, List, map, length, Some, None, Option, sym, refl, ap, ◌∙◌, subst}
+use Rattle.std.proofs.Common.{◌≡◌, ℕ, suc, T, List, map, length, Some, None, Option, sym, refl, ap, ◌∙◌, subst}
 use Rattle.std.specs.Option.{option_map}
 use Rattle.std.proofs.lemmas.List.{length-map}
 use Rattle.std.proofs.lemmas.Bool.{cond-true}
@@ -8,14 +8,11 @@ use Rattle.carriers.specs.Carrier.{Link, Carrier, meant, link_meant}
 use Rattle.carriers.specs.Fences.{fenced, fence}
 use Rattle.carriers.specs.Present.{from_tested, from_mapped}
 use Rattle.stepping.proofs.Kept.{map_from, map_to}
+use Rattle.stepping.proofs.Tests.{T_true}
 use Rattle.histories.specs.declared.Hop.{Hop}
 use Rattle.histories.specs.Routes.{LinkAt, Route, arrived, along, onto}
 use Rattle.histories.specs.Promise.{Query, Routed, Front}
 use Rattle.listing.specs.Truth.{Says, none, routes}
-
-T_true : (b : Bool) → T b → b ≡ true
-T_true true t = refl
-T_true false t = absurd t
 
 -- d has the links of c whose weight is within b, and no others
 pub record Within (A : Algebra) (b : A.Weight) (c d : Carrier A.Weight) : Type 0 where
@@ -28,7 +25,6 @@ module _ {W : Type 0} (A : Algebra) (f : W → A.Weight) (limit : W) where
       → option_map (link_meant f) (fenced A f limit o) ≡ Some l
   kept_at None l e g = e
   kept_at (Some k) l e g =
-      let it = from_mapped (link_meant f) (Some k) l e in
       let good : T (A.good (f k.weight) (f limit)) = subst (λ z. T (A.good z.weight (f limit))) (let s : l ≡ link_meant f k = cc in s) g in
       ap (option_map (link_meant f)) (cond-true (A.good (f k.weight) (f limit)) (Some k) None (T_true _ good)) ∙ e
 
@@ -37,7 +33,7 @@ module _ {W : Type 0} (A : Algebra) (f : W → A.Weight) (limit : W) where
   from_at (Some k) l e =
       let it = from_mapped (link_meant f) (fenced A f limit (Some k)) l e in
       let same = (from_tested (A.good (f k.weight) (f limit)) k it.0 it.1).1 in
-      ap (λ z. Some (link_meant f z)) same ∙ ap Some it.2
+      cc (same, it.2)
 
   pub fence_within : (c : Carrier W) → Within A (f limit) (meant f c) (meant f (fence A f limit c))
   fence_within c =
@@ -47,42 +43,43 @@ module _ {W : Type 0} (A : Algebra) (f : W → A.Weight) (limit : W) where
         entry = λ v. refl;
       }
 
+-- a route whose weights are all of P leads through the carriers d as it does through c
+module _ (A : Algebra) (P : A.Weight → Type 0) (first : (y x : A.Weight) → P (A.join y x) → P y) (rest : (y x : A.Weight) → P (A.join y x) → P x) {X : Type 0} (books : List X) (c d : X → Carrier A.Weight) (kept : (z : X) (p : ℕ) (l : Link A.Weight) → LinkAt (c z) p l → P l.weight → LinkAt (d z) p l) (entry : (z : X) (v : ℕ) → (c z).entry v ≡ (d z).entry v) (t : ℕ) where
+  carried : {i v : ℕ} {hops : List Hop} {x : A.Weight} → Route A (map c books) t i v hops x → P x → Route A (map d books) t i v hops x
+  carried arrived g = arrived
+  carried (along {i} {hops} {x} e p l n at s r) g =
+      let it = map_from c books i e n in
+      along (d it.0) p l (map_to d books i it.0 it.1)
+      (kept it.0 p l (subst (λ z. LinkAt z p l) (sym it.2) at) (first l.weight x g))
+      s
+      (carried r (rest l.weight x g))
+  carried (onto {i} {hops} {x} e o p l n m at s y r) g =
+      let it = map_from c books (suc i) e n in
+      let jt = map_from c books i o m in
+      onto (d it.0) (d jt.0) p l (map_to d books (suc i) it.0 it.1) (map_to d books i jt.0 jt.1)
+      (kept it.0 p l (subst (λ z. LinkAt z p l) (sym it.2) at) (first l.weight x g))
+      s
+      (subst T (ap (λ z. z.entry l.head) (sym jt.2) ∙ entry jt.0 l.head) y)
+      (carried r (rest l.weight x g))
+
 -- the same routes through two chains, one of the carriers c and one of the carriers d, of which each is within the bounds
 module _ (A : Algebra) (laws : Laws A) {X : Type 0} (books : List X) (c d : X → Carrier A.Weight) (b : A.Weight) (within : (x : X) → Within A b (c x) (d x)) (t : ℕ) where
   to_within : {i v : ℕ} {hops : List Hop} {x : A.Weight} → Route A (map c books) t i v hops x → T (A.good x b)
       → Route A (map d books) t i v hops x
-  to_within arrived g = arrived
-  to_within (along {i} {hops} {x} e p l n at s r) g =
-      let it = map_from c books i e n in
-      let whole = A.join l.weight x in
-      let first = laws.good_trans l.weight whole b (laws.join_left l.weight x) g in
-      let rest = laws.good_trans x whole b (laws.join_right l.weight x) g in
-      along (d it.0) p l (map_to d books i it.0 it.1) ((within it.0).kept p l (subst (λ z. LinkAt z p l) (sym it.2) at) first) s (to_within r rest)
-  to_within (onto {i} {hops} {x} e o p l n m at s y r) g =
-      let it = map_from c books (suc i) e n in
-      let jt = map_from c books i o m in
-      let whole = A.join l.weight x in
-      let first = laws.good_trans l.weight whole b (laws.join_left l.weight x) g in
-      let rest = laws.good_trans x whole b (laws.join_right l.weight x) g in
-      onto (d it.0) (d jt.0) p l (map_to d books (suc i) it.0 it.1) (map_to d books i jt.0 jt.1)
-      ((within it.0).kept p l (subst (λ z. LinkAt z p l) (sym it.2) at) first)
-      s
-      (subst T (ap (λ z. z.entry l.head) (sym jt.2) ∙ (within jt.0).entry l.head) y)
-      (to_within r rest)
+  to_within =
+      carried A (λ x. T (A.good x b))
+      (λ y x. laws.good_trans y (A.join y x) b (laws.join_left y x))
+      (λ y x. laws.good_trans x (A.join y x) b (laws.join_right y x))
+      books c d (λ z. (within z).kept) (λ z. (within z).entry) t
 
   from_within : {i v : ℕ} {hops : List Hop} {x : A.Weight} → Route A (map d books) t i v hops x → Route A (map c books) t i v hops x
-  from_within arrived = arrived
-  from_within (along {i} {hops} {x} e p l n at s r) =
-      let it = map_from d books i e n in
-      along (c it.0) p l (map_to c books i it.0 it.1) ((within it.0).from p l (subst (λ z. LinkAt z p l) (sym it.2) at)) s (from_within r)
-  from_within (onto {i} {hops} {x} e o p l n m at s y r) =
-      let it = map_from d books (suc i) e n in
-      let jt = map_from d books i o m in
-      onto (c it.0) (c jt.0) p l (map_to c books (suc i) it.0 it.1) (map_to c books i jt.0 jt.1)
-      ((within it.0).from p l (subst (λ z. LinkAt z p l) (sym it.2) at))
-      s
-      (subst T (ap (λ z. z.entry l.head) (sym jt.2) ∙ sym ((within jt.0).entry l.head)) y)
-      (from_within r)
+  from_within r =
+      carried A (λ x. Unit {0}) (λ y x g. g) (λ y x g. g) books d c
+      (λ z p l at g. (within z).from p l at)
+      (λ z v. sym ((within z).entry v))
+      t
+      r
+      tt
 
   module _ (v : ℕ) where
     abbrev asked : (X → Carrier A.Weight) → Query A

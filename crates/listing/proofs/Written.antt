@@ -1,5 +1,5 @@
 -- The calls along a chain make a history, so what is written of them is true of its routes.
-use Rattle.std.proofs.Common.{◌≡◌, ℕ, suc, ◌+◌, ◌<◌, ◌⊎◌, List, [], ◌∷◌, ◌++◌, map, length, Some, Ok, Err, Option, sym, refl, ap, ◌∙◌, subst, inl, inr, append_assoc, append-nil, arith}
+use Rattle.std.proofs.Common.{◌≡◌, ℕ, suc, ◌+◌, ◌<◌, ◌⊎◌, List, [], ◌∷◌, ◌++◌, map, length, Some, Ok, Err, Option, Result, sym, refl, ap, ◌∙◌, subst, inl, inr, append_assoc, arith, None}
 use Rattle.std.specs.Option.{ok_or}
 use Rattle.std.specs.List.{slice_get}
 use Rattle.weights.specs.Algebra.{Algebra, Laws}
@@ -11,19 +11,17 @@ use Rattle.stepping.specs.Labels.{Labels}
 use Rattle.stepping.proofs.Places.{none_some, some_same}
 use Rattle.histories.specs.declared.Ending.{Ending}
 use Rattle.histories.specs.declared.Item.{Item}
-use Rattle.histories.specs.declared.Routes.{Routes}
-use Rattle.histories.specs.declared.Routes.TheVariants.{NoRoute, Listed}
 use Rattle.histories.specs.Stages.{Stage, idle, After, refused}
 use Rattle.histories.specs.Lists.{on_item}
 use Rattle.histories.specs.Calls.{on_open, on_cross, on_finish}
 use Rattle.histories.specs.Histories.{to_open, to_cross, to_finish, Log, State, left, History, new, over, own, last_open, chain, last_finish, when_finished, phase_told}
 use Rattle.histories.specs.Promise.{Query, Found, Routed, weights}
-use Rattle.histories.proofs.Turned.{ok_err}
 use Rattle.histories.proofs.Promise.{finished_as_told}
 use Rattle.books.specs.ChainLayout.{Contents}
 use Rattle.listing.specs.Calls.{go_on, travel, along, calls}
-use Rattle.listing.specs.Texts.{refused_text, row_text, heading_text, rows_text, routes_text, ending_text, after_text, unless_refused}
-use Rattle.listing.specs.Truth.{query, lines, Says, none, routes, ListedTruly}
+use Rattle.listing.specs.Texts.{refused_text, answer_text, after_text}
+use Rattle.listing.specs.Found.{then_if, items_from, found_at}
+use Rattle.listing.specs.Truth.{query, Says, none, routes, ListedTruly}
 
 -- a call that answered, or was refused
 go_on_cases : {V X Y : Type 0} (P : After V Y → Type 0) (a : After V X) (next : Stage V → List (Label V) → After V Y)
@@ -74,13 +72,13 @@ module _ (A : Algebra) (g : List ℕ → Carrier A.Weight) (v : ℕ) where
       (λ cs. IfEnded cs (last_open log) (travel A g v d ds a.stage a.labels))
       (append_assoc (chain log) (g b ∷ []) (map g (d ∷ ds)))
       it)
-      (λ w f y. ok_err f w (sym y))
+      (λ w f y. absurd (cc y))
       e
       q
 
   gone_along : (bs : List (List ℕ)) (log : Log A.Weight) (r : State A.Weight) → History A log r
       → IfEnded (chain log ++ map g bs) (last_open log) (along A g v bs r.stage r.labels)
-  gone_along [] log r h e q = ok_err e refusals.Chain (sym q)
+  gone_along [] log r h e q = absurd (cc q)
   gone_along (b ∷ bs) log r h e q = travelled b bs log r h e q
 
 module _ (A : Algebra) (g : List ℕ → Carrier A.Weight) (b : A.Weight) (c : Contents) (m : Labels A) where
@@ -94,22 +92,16 @@ module _ (A : Algebra) (g : List ℕ → Carrier A.Weight) (b : A.Weight) (c : C
       (λ u q.
       gone_along A g c.source c.books ((to_open b c.destination, Ok tt) ∷ []) (left o)
       (over b c.destination m new q))
-      (λ w e q. ok_err e w (sym q))
+      (λ w e q. absurd (cc q))
 
--- the lines of the items from the k-th on
-rows_are : {V : Type 0} (t : V → List ℕ) (s : Stage V) (v : ℕ) (m : List (Label V)) (its : List (Item V)) (k : ℕ) (out : List ℕ)
+-- the items from the k-th on
+items_are : {V : Type 0} (s : Stage V) (v : ℕ) (m : List (Label V)) (its : List (Item V)) (k : ℕ)
     → ((j : ℕ) → on_item s v (k + j) m ≡ ok_or (slice_get its j) refusals.Key)
-    → rows_text t s v m (length its) k out ≡ out ++ lines t k its
-rows_are t s v m [] k out h = sym (append-nil out)
-rows_are t s v m (it ∷ its) k out h =
-    let line = row_text (suc k) (t it.weight) it.key in
-    let now : k ≡ k + 0 = omega arith in
-    ap
-    (λ o. unless_refused o (λ i. rows_text t s v m (length its) (suc k) (out ++ row_text (suc k) (t i.weight) i.key)))
-    (ap (λ n. on_item s v n m) now ∙ h 0)
-    ∙ (rows_are t s v m its (suc k) (out ++ line)
-    (λ j. let next : suc k + j ≡ k + suc j = omega arith in ap (λ n. on_item s v n m) next ∙ h (suc j))
-    ∙ append_assoc out line (lines t (suc k) its))
+    → items_from s v m (length its) k ≡ Ok its
+items_are s v m [] k h = refl
+items_are s v m (it ∷ its) k h =
+    let rest = items_are s v m its (suc k) (λ j. grind (arith, h (suc j))) in
+    grind (arith, h 0, rest)
 
 -- what is written of the routes that a finish answered with
 module _ (A : Algebra) (t : A.Weight → List ℕ) (q : Query A) (r : State A.Weight) (found : Found A q r) where
@@ -124,31 +116,28 @@ module _ (A : Algebra) (t : A.Weight → List ℕ) (q : Query A) (r : State A.We
       none_some it.1 (sym (ap (λ ls. slice_get (weights ls) it.0) e) ∙ it.2)))
   some_listed (i ∷ its) e h = omega arith
 
-  said : (o : Routes) → (o ≡ NoRoute → (x : A.Weight) → Routed A q x → ⊥)
-      → (((x : A.Weight) → Routed A q x → ⊥) → o ≡ NoRoute)
-      → ((o ≡ NoRoute → ⊥) → o ≡ Listed (length found.listed))
-      → Says A t q (routes_text t r.stage q.source r.labels o)
-  said NoRoute n c l = none (n refl) refl
-  said (Listed k) n c l =
-      let other : Listed k ≡ NoRoute → ⊥ = λ z. let y : ◌≡◌ {A = ℕ} 0 1 = cc in omega arith in
-      let is : k ≡ length found.listed = (let e = l other in cc e) in
+  said : (o : Option ℕ) → (o ≡ None → (x : A.Weight) → Routed A q x → ⊥)
+      → (((x : A.Weight) → Routed A q x → ⊥) → o ≡ None)
+      → ((o ≡ None → ⊥) → o ≡ Some (length found.listed))
+      → Says A t q (answer_text t (found_at r.stage q.source r.labels o))
+  said None n c l = none (n refl) refl
+  said (Some k) n c l =
+      let other : Some k ≡ None → ⊥ = λ z. none_some k (sym z) in
+      let is = some_same k (length found.listed) (l other) in
       routes found.listed (some_listed found.listed refl (λ h. other (c h))) found.front found.only
-      (sym
-      (ap (routes_text t r.stage q.source r.labels) (ap Listed is)
-      ∙ rows_are t r.stage q.source r.labels found.listed 0 (heading_text (length found.listed))
-      (λ j. let zero_j : 0 + j ≡ j = omega arith in ap (λ n. on_item r.stage q.source n r.labels) zero_j ∙ found.items j)))
+      (let items = items_are r.stage q.source r.labels found.listed 0 (λ j. grind (arith, found.items j)) in
+      cc (is, items))
 
 same_query : (A : Algebra) (p q : Query A) → p.chain ≡ q.chain → p.bounds ≡ q.bounds → p.destination ≡ q.destination
     → p.source ≡ q.source → p ≡ q
 same_query A p q c b d s =
-    ap (λ x. record { chain = x; bounds = p.bounds; destination = p.destination; source = p.source }) c
-    ∙ (ap (λ x. record { chain = q.chain; bounds = x; destination = p.destination; source = p.source }) b
-    ∙ (ap (λ x. record { chain = q.chain; bounds = q.bounds; destination = x; source = p.source }) d
-    ∙ ap (λ x. record { chain = q.chain; bounds = q.bounds; destination = q.destination; source = x }) s))
+    let same : ◌≡◌ {A = Query A} (record { chain = p.chain; bounds = p.bounds; destination = p.destination; source = p.source }) (record { chain = q.chain; bounds = q.bounds; destination = q.destination; source = q.source }) = cc in
+    same
 
 pub listed_truly : (A : Algebra) → Laws A → ListedTruly A
 listed_truly A laws g b c m t =
     let a = calls A g b c idle m in
+    let written : Result Ending Refusal → List ℕ = λ o. answer_text t (then_if o (λ e. found_at a.stage c.source a.labels e.routes)) in
     (elim a.answer as
     (λ o. a.answer ≡ o → ((r : Refusal) × (a.answer ≡ Err r) × (after_text t c.source a ≡ refused_text r)) ⊎ Says A t (query A g b c) (after_text t c.source a)) [
       | Ok e ↦ λ q.
@@ -159,13 +148,13 @@ listed_truly A laws g b c m t =
           let finish : ◌≡◌ {A = ℕ × Ending} (p.query.source, p.ending) (c.source, e) =
           some_same _ _ (sym p.finish_was ∙ it.ending) in
           let same = same_query A p.query (query A g b c) (sym p.chain_was ∙ it.carriers) (ap (λ x. x.0) opening) (ap (λ x. x.1) opening) (ap (λ x. x.0) finish) in
-          let text : routes_text t a.stage p.query.source a.labels p.ending.routes ≡ after_text t c.source a =
-          ap (λ x. routes_text t a.stage x.0 a.labels x.1.routes) finish ∙ sym (ap (ending_text t c.source a.stage a.labels) q) in
+          let text : answer_text t (found_at a.stage p.query.source a.labels p.ending.routes) ≡ after_text t c.source a =
+          ap (λ x. answer_text t (found_at a.stage x.0 a.labels x.1.routes)) finish ∙ sym (ap written q) in
           inr
           (subst
           (λ x. Says A t x (after_text t c.source a))
           same
           (subst (Says A t p.query) text (said A t p.query (left a) p.found p.ending.routes p.none_so p.none_then p.number)))
-      | Err r ↦ λ q. inl (r, q, ap (ending_text t c.source a.stage a.labels) q)
+      | Err r ↦ λ q. inl (r, q, ap written q)
     ])
     refl

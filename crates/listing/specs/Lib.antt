@@ -1,4 +1,7 @@
 pub mod Calls
+pub mod Found
+pub mod Items
+pub mod Pairs
 pub mod Texts
 pub mod Listing
 pub mod Truth

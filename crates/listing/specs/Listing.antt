@@ -14,12 +14,12 @@ use Rattle.weights.specs.declared.pairs.Pair.{Pair}
 use Rattle.weights.specs.declared.sums.Sum.{Sum}
 use Rattle.weights.specs.declared.widths.Width.{Width}
 use Rattle.carriers.specs.declared.refusals.Refusal.{Refusal}
-use Rattle.stepping.specs.Memory.{blanks}
 use Rattle.books.specs.ChainLayout.{Contents, chain_of}
 use Rattle.books.specs.Columns.{sum_from, width_from, colours_from, pair_from}
 use Rattle.books.specs.declared.bounds.Bounds.{Bounds}
 use Rattle.books.specs.declared.bounds.Bounds.TheVariants.{Delay, DelayFee, All}
-use Rattle.listing.specs.Texts.{refused_text, chain_text}
+use Rattle.listing.specs.Found.{found_of}
+use Rattle.listing.specs.Texts.{refused_text, answer_text}
 
 -- what the weights mean
 abbrev pub sum_means : {U : Type 0} → Sum U → UpTo top
@@ -41,9 +41,9 @@ amount_text a = decimal a.amount
 abbrev pub pair_text : {X Y : Type 0} → (X → List ℕ) → (Y → List ℕ) → Both X Y → List ℕ
 pair_text f s p = f p.first ++ (codes " " ++ s p.second)
 
-unfoldable pub listed_text : {W : Type 0} (A : Algebra) → (W → A.Weight) → (List ℕ → W) → (A.Weight → List ℕ) → W
+abbrev pub listed_text : {W : Type 0} (A : Algebra) → (W → A.Weight) → (List ℕ → W) → (A.Weight → List ℕ) → W
     → Contents → List ℕ
-listed_text A f reads t w c = chain_text A f reads t w c (blanks A 1024)
+listed_text A f reads t w c = answer_text t (found_of A f reads w c)
 
 -- of the kind of weights that the selection names: what they mean, how a book's columns are read, and their text
 abbrev pub by_selection {ℓ} : {R : Type ℓ}

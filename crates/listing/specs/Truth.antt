@@ -1,7 +1,6 @@
 -- What the list of a chain says of its routes.
 --   query A g b c    the routes from the source of the chain c to its destination within the bounds b, where g gives the
 --                    carrier of a book
---   lines t k its    the lines of the items its, the first of which is the k-th, k from 0; t is the text of a weight
 --   Says A t q out   out is the one line that there is no route, and q has none; or out is a heading with the number of
 --                    the routes that matter, at least one, and a line for each, and no other sequence of weights is theirs
 --   TrueOfChain    out is the refusal of the calls along the chain in a memory of 1,024 labels, or says what the routes
@@ -9,7 +8,7 @@
 --   TrueListing     so it is with what is written of every byte string that is a chain file, and of any other its refusal
 --                    is written
 --   ListedTruly     what is written after the calls along a chain is their first refusal, or says what its routes are
-use Rattle.std.specs.Prelude.{◌≡◌, ℕ, suc, ◌<◌, ◌⊎◌, List, [], ◌∷◌, ◌++◌, map, length, Ok, Err, codes, Result}
+use Rattle.std.specs.Prelude.{◌≡◌, ℕ, ◌<◌, ◌⊎◌, List, ◌++◌, map, length, Ok, Err, codes, Result}
 use Rattle.weights.specs.Algebra.{Algebra}
 use Rattle.carriers.specs.Carrier.{Carrier}
 use Rattle.carriers.specs.declared.refusals.Refusal.{Refusal}
@@ -21,15 +20,11 @@ use Rattle.histories.specs.Promise.{Query, Front, Routed, weights}
 use Rattle.books.specs.ChainLayout.{Contents, chain_of}
 use Rattle.listing.specs.Calls.{plain, behind, calls}
 use Rattle.listing.specs.Listing.{by_selection, listing_text}
-use Rattle.listing.specs.Texts.{refused_text, row_text, heading_text, after_text}
+use Rattle.listing.specs.Texts.{refused_text, heading_text, lines, after_text}
 
 abbrev pub query : (A : Algebra) → (List ℕ → Carrier A.Weight) → A.Weight → Contents → Query A
 query A g b c =
     record { chain = map g c.books; bounds = b; destination = c.destination; source = c.source }
-
-abbrev pub lines : {V : Type 0} → (V → List ℕ) → ℕ → List (Item V) → List ℕ
-lines t k [] = []
-lines t k (it ∷ its) = row_text (suc k) (t it.weight) it.key ++ lines t (suc k) its
 
 pub data Says (A : Algebra) (t : A.Weight → List ℕ) (q : Query A) (out : List ℕ) : Type 0 where
   none : ((x : A.Weight) → Routed A q x → ⊥) → codes "no route\n" ≡ out → Says A t q out

@@ -2,18 +2,24 @@
 
 #![tactic(auto)]
 
-ghost use Rattle.std.specs.Prelude.{◌≡◌, IfOk, string_bytes};
-ghost use Rattle.listing.specs.Listing.{listing_text};
+ghost use Rattle.std.specs.Prelude.{◌≡◌, IfOk, Err, string_bytes};
+ghost use Rattle.books.specs.Told.{contents_of};
+ghost use Rattle.carriers.specs.declared.refusals.Refusal.{Refusal as TheRefusal};
+ghost use Rattle.listing.specs.declared.unlisted.Unlisted.TheVariants.{Refused};
+ghost use Rattle.listing.specs.Texts.{refused_text};
+ghost use Rattle.listing.specs.Listing.{listing_text, selected_text};
 
-use books::{BookKind, Bounds, Chain};
-use routes::list_routes;
-use rows::refused;
+use books::{Bounds, Chain};
+use journey::Journey;
 use std::alloc::{AllocError, Global};
+use unlisted::Unlisted;
 
-mod along;
-mod routes;
-mod rows;
+mod found;
+mod journey;
+mod known_text;
+mod route_list;
 mod truth;
+mod unlisted;
 
 pub use truth::{listing_stands, lists_are_true};
 
@@ -21,13 +27,31 @@ pub use truth::{listing_stands, lists_are_true};
 pub fn listing(heap: Global, bytes: &[u8]) -> Result<String, AllocError>
     ensures { IfOk result (λ s. string_bytes s ≡ listing_text bytes.now) }
 {
-    match Chain::read(bytes) {
-        Err(refusal) => refused(heap, refusal),
-        Ok(chain) => match chain.bounds() {
-            Bounds::Delay(bounds) => list_routes(heap, bounds, &chain),
-            Bounds::DelayFee(bounds) => list_routes(heap, bounds, &chain),
-            Bounds::All(bounds) => list_routes(heap, bounds, &chain),
-        },
+    match list(heap, bytes) {
+        Ok(text) => Ok(text),
+        Err(Unlisted::Refused(refusal)) => format!(in heap; "refused {}\n", refusal.number()),
+        Err(Unlisted::Memory(error)) => Err(error),
+    }
+}
+
+// The text of the list, where nothing is refused.
+fn list(heap: Global, bytes: &[u8]) -> Result<String, Unlisted>
+    ensures text { IfOk result (λ s. string_bytes s ≡ listing_text bytes.now) }
+    ensures refused { (r : TheRefusal) → result ≡ Err (Refused r) → refused_text r ≡ listing_text bytes.now }
+{
+    let chain = Chain::read(bytes)?;
+    selected_routes(heap, &chain)
+}
+
+// The routes of the chain, in the weights that its bounds are given in.
+fn selected_routes(heap: Global, chain: &Chain) -> Result<String, Unlisted>
+    ensures text { IfOk result (λ s. string_bytes s ≡ selected_text (contents_of chain.now) (contents_of chain.now).bounds) }
+    ensures refused { (r : TheRefusal) → result ≡ Err (Refused r) → refused_text r ≡ selected_text (contents_of chain.now) (contents_of chain.now).bounds }
+{
+    match chain.bounds() {
+        Bounds::Delay(bounds) => Journey { bounds, chain }.routes_text(heap),
+        Bounds::DelayFee(bounds) => Journey { bounds, chain }.routes_text(heap),
+        Bounds::All(bounds) => Journey { bounds, chain }.routes_text(heap),
     }
 }
 

@@ -1,12 +1,9 @@
 pub mod Tables
-pub mod Keeping
-pub mod Opening
-pub mod Refusing
 pub mod Seen
 pub mod Settled
-pub mod Passing
 pub mod Moving
+pub mod Allowed
+pub mod Asking
 pub mod Listing
 pub mod Hops
-pub mod Expanding
 pub mod Promises

@@ -1,50 +1,41 @@
--- One label more of a list, and the list of a run.
-use Rattle.std.proofs.Common.{◌≡◌, ℕ, zero, suc, ◌+◌, ◌-◌, ◌<◌, ◌≤◌, Bool, true, false, cond, ◌&&◌, eqb, List, [], ◌∷◌, map, length, get_or, drop, refl, ap, ◌∙◌, arith}
-use Rattle.std.specs.List.{slice_get}
-use Rattle.std.proofs.lemmas.List.{drop_all}
-use Rattle.std.proofs.lemmas.Bool.{eq-eqb, ne_eqb}
+-- The list of a run, as its labels are passed through one by one.
+use Rattle.std.proofs.Common.{◌≡◌, ◌==◌, ◌&&◌, ℕ, suc, Bool, true, false, cond, Some, None, Option, Bor, List, [], ◌∷◌, map, length, refl, ap, ◌∙◌, add-one}
+use Rattle.std.specs.List.{filter, zip, range_with_len}
+use Rattle.std.specs.Option.{option_map}
+use Rattle.requests.specs.Listed.{item_meant}
 use Rattle.stepping.specs.declared.Label.{Label}
 use Rattle.stepping.specs.Labels.{meant}
 use Rattle.histories.specs.declared.Item.{Item}
 use Rattle.histories.specs.Lists.{items}
-use Rattle.crossing.proofs.Items.{drop_item}
 
-module _ {W V : Type 0} (f : W → V) (ys : List (Label W)) (v i k j : ℕ) (next : suc k ≡ j) (x : Label W) (within : i < length ys) (read : x ≡ get_or ys i x) where
-  one_more : (t u : Bool) → eqb x.node v ≡ t → x.mark ≡ u
-      → items v k (map (meant f) (drop i ys))
-      ≡ cond (t && u) (record { weight = f x.weight; key = k } ∷ items v j (map (meant f) (drop (i + 1) ys))) (items v j (map (meant f) (drop (i + 1) ys)))
-  one_more t u a b =
-      let rest : ℕ → List (Item V) = λ n. items v n (map (meant f) (drop (i + 1) ys)) in
-      ap (λ r. items v k (map (meant f) r)) (drop_item ys i x within read)
-      ∙ ap (λ n. cond (eqb x.node v && x.mark) (record { weight = f x.weight; key = k } ∷ rest n) (rest n)) next
-      ∙ ap (λ s. cond (s && x.mark) (record { weight = f x.weight; key = k } ∷ rest j) (rest j)) a
-      ∙ ap (λ s. cond (t && s) (record { weight = f x.weight; key = k } ∷ rest j) (rest j)) b
+abbrev pub is_listed : {W : Type 0} → ℕ → Label W → Bool
+is_listed v l = l.node == v && l.mark
 
-  pub listed_here : x.node ≡ v → x.mark ≡ true
-      → items v k (map (meant f) (drop i ys)) ≡ record { weight = f x.weight; key = k } ∷ items v j (map (meant f) (drop (i + 1) ys))
-  listed_here a b = one_more true true (eq-eqb x.node v a) b
+abbrev pub item_of : {W V : Type 0} → (W → V) → ℕ × Label W → Item V
+item_of f p = record { weight = f p.1.weight; key = p.0 }
 
-  pub unmarked_here : x.node ≡ v → x.mark ≡ false
-      → items v k (map (meant f) (drop i ys)) ≡ items v j (map (meant f) (drop (i + 1) ys))
-  unmarked_here a b = one_more true false (eq-eqb x.node v a) b
+-- an item is made of a label behind a reference
+pub given : {W V : Type 0} (f : W → V) (o : Option (ℕ × Bor (Label W)))
+    → option_map (item_meant f) (option_map (λ x. record { weight = x.1.now.weight; key = x.0 }) o) ≡ option_map (item_of f) (option_map (λ x. (x.0, x.1.now)) o)
+given f None = refl
+given f (Some x) = refl
 
-  pub elsewhere : (x.node ≡ v → ⊥)
-      → items v k (map (meant f) (drop i ys)) ≡ items v j (map (meant f) (drop (i + 1) ys))
-  elsewhere a = one_more false x.mark (ne_eqb x.node v a) refl
+module _ {W V : Type 0} (f : W → V) (v : ℕ) where
+  pub listed : (k : ℕ) (ls : List (Label W))
+      → map (item_of f) (filter (λ p. is_listed v p.1) (zip (range_with_len k (length ls)) ls)) ≡ items v k (map (meant f) ls)
+  listed k [] = refl
+  listed k (l ∷ ls) =
+      ap (λ n. map (item_of f) (filter (λ p. is_listed v p.1) (zip (k ∷ range_with_len n (length ls)) (l ∷ ls)))) (add-one k)
+      ∙ elim (is_listed v l) as (λ b. map (item_of f) (cond b ((k, l) ∷ filter (λ p. is_listed v p.1) (zip (range_with_len (suc k) (length ls)) ls)) (filter (λ p. is_listed v p.1) (zip (range_with_len (suc k) (length ls)) ls))) ≡ cond b (record { weight = f l.weight; key = k } ∷ items v (suc k) (map (meant f) ls)) (items v (suc k) (map (meant f) ls))) [
+        | true ↦ ap (λ xs. record { weight = f l.weight; key = k } ∷ xs) (listed (suc k) ls)
+        | false ↦ listed (suc k) ls
+      ]
 
-pub nth_after : {X : Type 0} (x : X) (xs : List X) (n : ℕ) → (n ≡ 0 → ⊥) → slice_get (x ∷ xs) n ≡ slice_get xs (n - 1)
-nth_after x xs zero h = absurd (h refl)
-nth_after x xs (suc n) h = let e : n ≡ suc n - 1 = omega arith in ap (slice_get xs) e
-
-pub none_left : {W V : Type 0} (f : W → V) (ys : List (Label W)) (v i k : ℕ) → length ys ≤ i → items v k (map (meant f) (drop i ys)) ≡ []
-none_left f ys v i k l = ap (λ r. items v k (map (meant f) r)) (drop_all i ys l)
-
-same_count : {X : Type 0} (b : Bool) (x y : X) (xs ys : List X) → length xs ≡ length ys → length (cond b (x ∷ xs) xs) ≡ length (cond b (y ∷ ys) ys)
-same_count true x y xs ys e = ap suc e
-same_count false x y xs ys e = e
-
--- how many are listed does not depend on their keys
-pub count_same : {V : Type 0} (ls : List (Label V)) (v k j : ℕ) → length (items v k ls) ≡ length (items v j ls)
-count_same [] v k j = refl
-count_same (l ∷ ls) v k j =
-    same_count (eqb l.node v && l.mark) (record { weight = l.weight; key = k }) (record { weight = l.weight; key = j }) (items v (suc k) ls) (items v (suc j) ls) (count_same ls v (suc k) (suc j))
+  -- how many they are does not depend on their keys
+  pub counted : (k : ℕ) (ls : List (Label W)) → length (filter (is_listed v) ls) ≡ length (items v k (map (meant f) ls))
+  counted k [] = refl
+  counted k (l ∷ ls) =
+      elim (is_listed v l) as (λ b. length (cond b (l ∷ filter (is_listed v) ls) (filter (is_listed v) ls)) ≡ length (cond b (record { weight = f l.weight; key = k } ∷ items v (suc k) (map (meant f) ls)) (items v (suc k) (map (meant f) ls)))) [
+        | true ↦ ap suc (counted (suc k) ls)
+        | false ↦ counted (suc k) ls
+      ]

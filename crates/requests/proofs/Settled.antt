@@ -3,13 +3,17 @@ use Rattle.std.proofs.Common.{◌≡◌, ℕ, ◌+◌, ◌≤◌, List, ◌++◌
 use Rattle.std.proofs.lemmas.List.{length-append, length-take, length-drop}
 use Rattle.weights.specs.Algebra.{Algebra}
 use Rattle.carriers.specs.declared.refusals.Refusal.{Refusal}
-use Rattle.carriers.specs.declared.refusals.Refusal.TheVariants.{Full}
 use Rattle.stepping.specs.Labels.{Labels}
 use Rattle.stepping.specs.Crossing.{Outcome, done, full}
 use Rattle.crossing.specs.Crossed.{answer_of, memory_of}
 use Rattle.histories.specs.Runs.{used}
 use Rattle.histories.specs.Stages.{Progress, After, opened}
 use Rattle.histories.specs.Crossings.{with_run, written, crossed}
+
+-- the answer and the labels after a crossing with the outcome o
+pub record Told (A : Algebra) (P : Progress A.Weight) (M : Labels A) (r : Result ℕ Refusal) (L : Labels A) (o : Outcome A.Weight) : Type 0 where
+  pub answer : r ≡ answer_of None o
+  pub labels : L ≡ memory_of A (used P.runs) M None o
 
 abbrev after : (A : Algebra) → Progress A.Weight → Labels A → Result ℕ Refusal → After A.Weight ℕ
 after A p m r = record { stage = opened p; labels = m; answer = r }
@@ -18,32 +22,30 @@ written_length : {X : Type 0} (n : ℕ) (m run : List X) → n ≤ length m → 
 written_length n m run l e =
     omega (arith, length-append (take n m) (run ++ drop (n + length run) m), length-append run (drop (n + length run) m), length-take n m, length-drop (n + length run) m)
 
-module _ (A : Algebra) (P : Progress A.Weight) (M L : Labels A) where
+module _ (A : Algebra) (P : Progress A.Weight) (M L : Labels A) (r : Result ℕ Refusal) where
   pub ended : (Q : Progress A.Weight) (n : ℕ) (o : Outcome A.Weight)
-      → Ok n ≡ answer_of None o
-      → L ≡ memory_of A (used P.runs) M None o
+      → r ≡ Ok n
+      → Told A P M r L o
       → Q ≡ with_run P n
-      → record { stage = opened Q; labels = L; answer = Ok n } ≡ crossed A P M opened length o
-  ended Q n (done run) a l q =
-      let e : n ≡ length run = cc in
-      ap (λ p. after A p L (Ok n)) q ∙ ap (λ k. after A (with_run P k) L (Ok k)) e ∙ ap (λ m. after A (with_run P (length run)) m (Ok (length run))) l
-  ended Q n full a l q = absurd (let z : ◌≡◌ {A = ℕ} 0 1 = cc in omega arith)
+      → record { stage = opened Q; labels = L; answer = r } ≡ crossed A P M opened length o
+  ended Q n (done run) is t q = let e : n ≡ length run = cc (is, t.answer) in cc (t.labels, q, e)
+  ended Q n full is t q = absurd (cc (is, t.answer))
 
   pub stopped : (e : Refusal) (o : Outcome A.Weight)
-      → Err e ≡ answer_of None o
-      → L ≡ memory_of A (used P.runs) M None o
-      → record { stage = opened P; labels = L; answer = Err e } ≡ crossed A P M opened length o
-  stopped e (done run) a l = absurd (let z : ◌≡◌ {A = ℕ} 0 1 = cc in omega arith)
-  stopped e full a l = ap (λ r. after A P L r) a ∙ ap (λ m. after A P m (Err Full)) l
+      → r ≡ Err e
+      → Told A P M r L o
+      → record { stage = opened P; labels = L; answer = r } ≡ crossed A P M opened length o
+  stopped e (done run) is t = absurd (cc (is, t.answer))
+  stopped e full is t = cc (t.answer, t.labels)
 
   pub run_within : (n : ℕ) (o : Outcome A.Weight)
-      → Ok n ≡ answer_of None o
-      → L ≡ memory_of A (used P.runs) M None o
+      → r ≡ Ok n
+      → Told A P M r L o
       → used P.runs ≤ length M
       → length L ≡ length M
       → used P.runs + n ≤ length M
-  run_within n (done run) a l h long =
-      let e : n ≡ length run = cc in
-      let w : used P.runs + length run ≤ length M = written_length (used P.runs) M run h (sym (ap length l) ∙ long) in
+  run_within n (done run) is t h long =
+      let e : n ≡ length run = cc (is, t.answer) in
+      let w : used P.runs + length run ≤ length M = written_length (used P.runs) M run h (sym (ap length t.labels) ∙ long) in
       omega arith
-  run_within n full a l h long = absurd (let z : ◌≡◌ {A = ℕ} 0 1 = cc in omega arith)
+  run_within n full is t h long = absurd (cc (is, t.answer))

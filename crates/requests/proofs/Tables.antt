@@ -1,38 +1,57 @@
--- One run more in the table.
-use Rattle.std.proofs.Common.{◌≡◌, ℕ, zero, suc, ◌+◌, ◌-◌, ◌<◌, ◌≤◌, List, ◌∷◌, length, get_or, set, Some, refl, ap, ◌∙◌, add-one, arith}
-use Rattle.std.proofs.lemmas.List.{get_or-set_same, get_or-set_other}
-use Rattle.std.proofs.lemmas.Bool.{lt-ltb, le-ltb, cond-true, cond-false}
-use Rattle.histories.specs.declared.Run.{Run}
+-- The runs of a table.
+use Rattle.std.proofs.Common.{◌≡◌, ℕ, zero, suc, ◌-◌, ◌<◌, ◌≤◌, List, [], ◌∷◌, reverse, length, get_or, take, Some, None, Option, MatchOption, inl, inr, cond, ltb, refl, sym, subst, ap, ◌∙◌, arith}
+use Rattle.std.specs.Option.{unwrap_or}
+use Rattle.std.specs.List.{slice_get}
+use Rattle.std.proofs.lemmas.List.{length-reverse, get_or-reverse, reverse-append, take_all, length-take-le}
+use Rattle.std.proofs.Math.Seq.{take-suc}
+use Rattle.std.proofs.lemmas.Bool.{cases_lt, lt-ltb, le-ltb, cond-true, cond-false}
 use Rattle.histories.specs.Runs.{position}
-use Rattle.requests.specs.Kept.{first_runs}
-use Rattle.requests.specs.Scoped.{latest_of}
+use Rattle.std.proofs.lemmas.Option.{slice_get-get_or}
+use Rattle.stepping.specs.declared.Run.{Run}
 
-first_runs_set : (t : List Run) (k n : ℕ) (r : Run) → n ≤ k → first_runs (set t k r) n ≡ first_runs t n
-first_runs_set t k zero r l = refl
-first_runs_set t k (suc n) r l =
-    ap (λ x. x ∷ first_runs (set t k r) n) (get_or-set_other t k n r (record { start = 0; length = 0 }) (λ e. omega arith))
-    ∙ ap (λ rs. get_or t n (record { start = 0; length = 0 }) ∷ rs) (first_runs_set t k n r (omega arith))
+-- the last is the first of the reversed
+pub last_first : {X : Type 0} (xs : List X) → slice_get xs (length xs - 1) ≡ slice_get (reverse xs) 0
+last_first [] = refl
+last_first (x ∷ xs) =
+    let all = x ∷ xs in
+    let e : length all - 1 ≡ length all - 1 - 0 = omega arith in
+    let first : 0 < length (reverse all) = omega (arith, length-reverse all) in
+    slice_get-get_or all (length all - 1) x (omega arith)
+    ∙ ap Some (ap (λ i. get_or all i x) e ∙ sym (get_or-reverse all 0 x (omega arith)))
+    ∙ sym (slice_get-get_or (reverse all) 0 x first)
 
-pub runs_push : (t : List Run) (n : ℕ) (r : Run) → n < length t → first_runs (set t n r) (n + 1) ≡ r ∷ first_runs t n
-runs_push t n r l =
-    ap (first_runs (set t n r)) (add-one n)
-    ∙ ap (λ x. x ∷ first_runs (set t n r) n) (get_or-set_same t n r (record { start = 0; length = 0 }) l)
-    ∙ ap (λ rs. r ∷ rs) (first_runs_set t n n r (omega arith))
+-- the position of a label, where the runs that start above its key are passed over from the latest on
+module _ (xs : List Run) (k : ℕ) where
+  abbrev start : ℕ → ℕ
+  start j = (get_or xs j (record { start = 0; length = 0 })).start
 
-pub length_first : (t : List Run) (n : ℕ) → length (first_runs t n) ≡ n
-length_first t zero = refl
-length_first t (suc n) = ap suc (length_first t n)
+  shorter : (n : ℕ) → n < length xs → position (reverse (take (suc n) xs)) k ≡ cond (ltb k (start n)) (position (reverse (take n xs)) k) (length (reverse (take n xs)))
+  shorter n l = ap (λ rs. position (reverse rs) k) (take-suc xs n (record { start = 0; length = 0 }) l) ∙ ap (λ rs. position rs k) (reverse-append (take n xs) _)
 
--- the latest run is the last of the table's front
-pub latest_first : (t : List Run) (n : ℕ) → (n ≡ 0 → ⊥) → Some (get_or t (n - 1) (record { start = 0; length = 0 })) ≡ latest_of (first_runs t n)
-latest_first t zero h = absurd (h refl)
-latest_first t (suc n) h = let e : suc n - 1 ≡ n = omega arith in ap (λ k. Some (get_or t k (record { start = 0; length = 0 }))) e
+  settled_by : (i n : ℕ) → i < n → n ≤ length xs → start i ≤ k → ((j : ℕ) → i < j → j < n → k < start j) → position (reverse (take n xs)) k ≡ i
+  settled_by i zero l w s h = absurd (let z : ◌≡◌ {A = ℕ} 0 1 = omega arith in omega arith)
+  settled_by i (suc n) l w s h =
+      elim (cases_lt i n) [
+        | inl j ↦
+            shorter n (omega arith)
+            ∙ cond-true _ _ _ (lt-ltb k (start n) (h n j (omega arith)))
+            ∙ settled_by i n j (omega arith) s (λ m a b. h m a (omega arith))
+        | inr j ↦
+            let e : n ≡ i = omega arith in
+            shorter n (omega arith)
+            ∙ cond-false _ _ _ (le-ltb k (start n) (subst (λ m. start m ≤ k) (sym e) s))
+            ∙ (length-reverse (take n xs) ∙ length-take-le n xs (omega arith) ∙ e)
+      ]
 
--- the position of a label, where the runs that start above its key are passed over
-module _ (t : List Run) (k n : ℕ) where
-  pub settled_in : (get_or t n (record { start = 0; length = 0 })).start ≤ k → position (first_runs t (suc n)) k ≡ n
-  settled_in l = cond-false _ _ _ (le-ltb k (get_or t n (record { start = 0; length = 0 })).start l) ∙ length_first t n
+  before_all : (n : ℕ) → n ≤ length xs → ((j : ℕ) → j < n → k < start j) → position (reverse (take n xs)) k ≡ 0
+  before_all zero w h = refl
+  before_all (suc n) w h =
+      shorter n (omega arith)
+      ∙ cond-true _ _ _ (lt-ltb k (start n) (h n (omega arith)))
+      ∙ before_all n (omega arith) (λ j l. h j (omega arith))
 
-  pub settled_below : k < (get_or t n (record { start = 0; length = 0 })).start
-      → position (first_runs t (suc n)) k ≡ position (first_runs t n) k
-  settled_below l = cond-true _ _ _ (lt-ltb k (get_or t n (record { start = 0; length = 0 })).start l)
+  pub latest_from : (r : Option ℕ)
+      → MatchOption r ((j : ℕ) → j < length xs → k < start j) (λ i. (i < length xs) × (start i ≤ k) × ((j : ℕ) → i < j → j < length xs → k < start j))
+      → unwrap_or r 0 ≡ position (reverse xs) k
+  latest_from None h = sym (ap (λ rs. position (reverse rs) k) (sym (take_all (length xs) xs (omega arith))) ∙ before_all (length xs) (omega arith) h)
+  latest_from (Some i) h = sym (ap (λ rs. position (reverse rs) k) (sym (take_all (length xs) xs (omega arith))) ∙ settled_by i (length xs) h.0 (omega arith) h.1 h.2)

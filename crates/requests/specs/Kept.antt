@@ -1,50 +1,37 @@
 -- What a request keeps, by meaning, and what its type says of it.
---   runs_of r         the runs of the table, latest first
 --   progress_of f p   the progress by the meaning of its bounds
 --   stage_of f s      the stage by meaning
---   kept n p          at most n runs, and the labels in use are among those of a memory of at most 65,536
---   sound s           what the type says of a stage: at most 15 runs while open, and 16 when finished
+--   sound s           what the type says of a stage: at most 15 runs while open
 --   in_use s          how many labels of the memory are in use
 --   progress_for s c  what the call c works on, at a stage that it is for
 --   did f s m r       what a call left and answered: the stage s, the memory m and the answer r, by meaning
-use Rattle.std.specs.Prelude.{ℕ, zero, suc, Bool, true, ◌&&◌, List, [], ◌∷◌, Ok, Err, Result, nat_le, slice_index_or}
+use Rattle.std.specs.Prelude.{ℕ, Bool, true, List, length, Ok, Err, Result, nat_le}
 use Rattle.carriers.specs.declared.refusals.Refusal.{Refusal}
 use Rattle.carriers.specs.declared.refusals.Refusal.TheVariants as refusals
 use Rattle.stepping.specs.declared.Label.{Label}
 use Rattle.stepping.specs.Labels.{meanings}
-use Rattle.histories.specs.declared.Run.{Run}
 use Rattle.histories.specs.Runs.{used}
 use Rattle.histories.specs.Stages as stages
-use Rattle.requests.specs.declared.stages.Runs.{Runs}
+use Rattle.requests.specs.Table.{runs_of}
 use Rattle.requests.specs.declared.stages.Progress.{Progress}
 use Rattle.requests.specs.declared.stages.Stage.{Stage}
 use Rattle.requests.specs.declared.stages.Stage.TheVariants.{Idle, Open, Finished}
 use Rattle.requests.specs.declared.stages.Call.{Call}
 use Rattle.requests.specs.declared.stages.Call.TheVariants.{Cross, Finish, Withdraw, Ask}
 
-abbrev pub first_runs : List Run → ℕ → List Run
-first_runs t zero = []
-first_runs t (suc n) = slice_index_or t n (record { start = 0; length = 0 }) ∷ first_runs t n
-
-abbrev pub runs_of : Runs → List Run
-runs_of r = first_runs r.table r.count
-
 abbrev pub progress_of : {W V : Type 0} → (W → V) → Progress W → stages.Progress V
 progress_of f p =
-    record { bounds = f p.bounds; destination = p.destination; memory = p.memory; runs = runs_of p.runs }
+    record { bounds = f p.bounds; destination = p.destination; memory = p.runs.memory; runs = runs_of p.runs }
 
 abbrev pub stage_of : {W V : Type 0} → (W → V) → Stage W → stages.Stage V
 stage_of f Idle = stages.idle
 stage_of f (Open p) = stages.opened (progress_of f p)
 stage_of f (Finished p) = stages.finished (progress_of f p)
 
-abbrev pub kept : {W : Type 0} → ℕ → Progress W → Bool
-kept most p = nat_le p.runs.count most && (nat_le (used (runs_of p.runs)) p.memory && nat_le p.memory 65536)
-
 abbrev pub sound : {W : Type 0} → Stage W → Bool
 sound Idle = true
-sound (Open p) = kept 15 p
-sound (Finished p) = kept 16 p
+sound (Open p) = nat_le (length (runs_of p.runs)) 15
+sound (Finished p) = true
 
 abbrev pub in_use : {W : Type 0} → Stage W → ℕ
 in_use Idle = 0

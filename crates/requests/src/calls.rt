@@ -14,9 +14,9 @@ ghost use Rattle.requests.specs.Kept.{stage_of, in_use, did};
 ghost use Rattle.requests.specs.Listed.{answered};
 ghost use Rattle.requests.specs.Hops.{written};
 
-use crate::lists::routes;
 use crate::requests_kept::Request;
-use crate::stages::{Call, Progress, Runs, Stage};
+use crate::runs::{MOST_LABELS, Runs};
+use crate::stages::{Call, Progress, Stage};
 use carriers::{Map, Refusal};
 use crossing::{Marks, blank_from};
 use histories::{Ending, Hop, Item};
@@ -41,26 +41,23 @@ impl<W: Kind> Request<W> {
         ensures call { did W.Kind.means self.new.stage memory.new result ≡ on_open W.Kind.algebra (stage_of W.Kind.means self.old.stage) (W.Kind.means bounds) destination (meanings W.Kind.means memory.old) }
         ensures same { is_err result ≡ true → (self.new.stage ≡ self.old.stage) × (memory.new ≡ memory.old) }
     {
-        match self.stage {
-            Stage::Idle => {
-                if memory.len() > 65536 {
-                    return Err(Refusal::Memory);
-                }
-                if !bounds.may_bound() {
-                    return Err(Refusal::Bound);
-                }
-                let length = memory.len();
-                blank_from(memory, 0);
-                self.stage = Stage::Open(Progress {
-                    bounds,
-                    destination,
-                    memory: length,
-                    runs: Runs::none(),
-                });
-                Ok(())
-            }
-            _ => Err(Refusal::Stage),
+        let Stage::Idle = self.stage else {
+            return Err(Refusal::Stage);
+        };
+        if memory.len() > MOST_LABELS {
+            return Err(Refusal::Memory);
         }
+        if !bounds.may_bound() {
+            return Err(Refusal::Bound);
+        }
+        let runs = Runs::none(memory.len());
+        blank_from(memory, 0);
+        self.stage = Stage::Open(Progress {
+            bounds,
+            destination,
+            runs,
+        });
+        Ok(())
     }
 
     // Crosses the map of the next carrier, and answers how many labels were settled.
@@ -72,9 +69,7 @@ impl<W: Kind> Request<W> {
         ensures rest { IfOk result (λ n. drop (in_use self.old.stage + n) memory.new ≡ drop (in_use self.old.stage + n) memory.old) }
     {
         let mut progress = self.stage.progress_for(Call::Cross)?;
-        if let Some(refusal) = progress.cross_refusal(map, memory) {
-            return Err(refusal);
-        }
+        progress.check_cross(map, memory)?;
         let settled = progress.cross(map, Marks::Entries, memory)?;
         self.stage = Stage::Open(progress);
         Ok(settled)
@@ -95,14 +90,12 @@ impl<W: Kind> Request<W> {
         ensures rest { IfOk result (λ e. drop (in_use self.old.stage + e.settled) memory.new ≡ drop (in_use self.old.stage + e.settled) memory.old) }
     {
         let mut progress = self.stage.progress_for(Call::Finish)?;
-        if let Some(refusal) = progress.finish_refusal(map, source, memory) {
-            return Err(refusal);
-        }
+        progress.check_finish(map, source, memory)?;
         let settled = progress.cross(map, Marks::Only(source), memory)?;
-        let listed = progress.count(source, memory);
+        let listed = progress.latest_labels(memory).count(source);
         self.stage = Stage::Finished(progress);
         Ok(Ending {
-            routes: routes(listed),
+            routes: (listed > 0).then_some(listed),
             settled,
         })
     }
@@ -113,9 +106,7 @@ impl<W: Kind> Request<W> {
         ensures same { is_err result ≡ true → (self.new.stage ≡ self.old.stage) × (memory.new ≡ memory.old) }
     {
         let progress = self.stage.progress_for(Call::Withdraw)?;
-        if memory.len() != progress.memory {
-            return Err(Refusal::Memory);
-        }
+        progress.check_memory(memory)?;
         blank_from(memory, 0);
         self.stage = Stage::Idle;
         Ok(())
@@ -126,10 +117,8 @@ impl<W: Kind> Request<W> {
         ensures { result ≡ on_count (stage_of W.Kind.means self.now.stage) node (meanings W.Kind.means memory.now) }
     {
         let progress = self.stage.progress_for(Call::Ask)?;
-        if memory.len() != progress.memory {
-            return Err(Refusal::Memory);
-        }
-        Ok(progress.count(node, memory))
+        progress.check_memory(memory)?;
+        Ok(progress.latest_labels(memory).count(node))
     }
 
     // The k-th of the list at the node, k from 0.
@@ -137,14 +126,13 @@ impl<W: Kind> Request<W> {
         ensures { answered W.Kind.means result ≡ on_item (stage_of W.Kind.means self.now.stage) node k (meanings W.Kind.means memory.now) }
     {
         let progress = self.stage.progress_for(Call::Ask)?;
-        if memory.len() != progress.memory {
-            return Err(Refusal::Memory);
-        }
-        match progress.item(node, k, memory) {
-            Some(item) => Ok(item),
-            None => Err(Refusal::Key),
-        }
+        progress.check_memory(memory)?;
+        progress
+            .latest_labels(memory)
+            .item(node, k)
+            .ok_or(Refusal::Key)
     }
+
     // Writes the hops of the route that the key stands for to the front of the slice, from the route's source on,
     // and answers how many there are.
     pub fn expand(
@@ -156,19 +144,15 @@ impl<W: Kind> Request<W> {
         ensures { written hops.new result ≡ on_expand (stage_of W.Kind.means self.now.stage) key (meanings W.Kind.means memory.now) hops.old }
     {
         let progress = self.stage.progress_for(Call::Ask)?;
-        if memory.len() != progress.memory {
-            return Err(Refusal::Memory);
-        }
+        progress.check_memory(memory)?;
         if key >= progress.runs.used() {
             return Err(Refusal::Key);
         }
-        let Some(count) = progress.runs.hop_count(key, memory) else {
-            return Err(Refusal::Key);
-        };
+        let count = progress.runs.hop_count(key, memory).ok_or(Refusal::Key)?;
         if hops.len() < count {
             return Err(Refusal::Short);
         }
-        progress.runs.write_hops(key, memory, &mut hops[0..count]);
+        progress.runs.write_hops(key, memory, &mut hops[..count]);
         Ok(count)
     }
 }

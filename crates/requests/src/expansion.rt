@@ -1,21 +1,19 @@
 // The hops of a key: the links that its label, the label's next and so on were settled by.
 
-ghost use Rattle.std.specs.Prelude.{◌≡◌, suc, ◌<◌, ◌≤◌, length, Some};
+ghost use Rattle.std.specs.Prelude.{◌≡◌, suc, ◌<◌, length, Some};
 ghost use Rattle.std.specs.Option.{option_map};
 ghost use Rattle.stepping.specs.Labels.{meanings};
 ghost use Rattle.histories.specs.Expansion.{follow};
-ghost use Rattle.requests.specs.Kept.{runs_of};
+ghost use Rattle.requests.specs.Table.{runs_of};
 
-use crate::stages::Runs;
+use crate::runs::Runs;
 use histories::Hop;
-use stepping::Label;
+use stepping::{Label, NO_LINK};
 use weights::Kind;
 
-// The link of the destination's own label, at which every route ends.
-const NO_LINK: u16 = 65535;
-
 impl Runs {
-    // How many hops the key has; `None` where a label's next is not below its own key.
+    // How many hops the key has; `None` where a label's next is not below its own key. A loop is plainer here than an
+    // iterator, which would have to say at its end in which of the two ways it ended.
     pub(crate) fn hop_count<W: Kind>(&self, key: usize, memory: &[Label<W>]) -> Option<usize>
         requires { key < length memory.now }
         ensures { result ≡ option_map length (follow (runs_of self.now) (meanings W.Kind.means memory.now) (suc key) key) }
@@ -37,7 +35,7 @@ impl Runs {
 
     // Writes the hops of the key, where the slice has as many places.
     pub(crate) fn write_hops<W: Kind>(&self, key: usize, memory: &[Label<W>], hops: &mut [Hop])
-        requires { (self.now.count ≤ 16) × (option_map length (follow (runs_of self.now) (meanings W.Kind.means memory.now) (suc key) key) ≡ Some (length hops.old)) }
+        requires { option_map length (follow (runs_of self.now) (meanings W.Kind.means memory.now) (suc key) key) ≡ Some (length hops.old) }
         ensures { follow (runs_of self.now) (meanings W.Kind.means memory.now) (suc key) key ≡ Some hops.new }
     {
         let mut at = key;

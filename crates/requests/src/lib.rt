@@ -9,6 +9,7 @@ mod lists;
 mod promise;
 mod requests_kept;
 mod rules;
+mod runs;
 mod stages;
 
 pub use promise::promise_stands;

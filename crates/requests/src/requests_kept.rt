@@ -5,7 +5,8 @@ ghost use Rattle.requests.specs.Kept.{sound};
 
 use crate::stages::Stage;
 
-// A request for routes to one destination within given bounds.
+// A request for routes to one destination within given bounds. It has no field for its labels: their memory is lent
+// anew to each call.
 #[derive(Drop)]
 pub struct Request<W> {
     pub(crate) stage: Stage<W>,

@@ -1,25 +1,31 @@
 // The rules by which a crossing is refused before anything is settled.
 
-ghost use Rattle.std.specs.Prelude.{◌≡◌, [], ◌∷◌};
+ghost use Rattle.std.specs.Prelude.{◌≡◌, ◌<◌, ◌≤◌, [], ◌∷◌, length, IfOk};
 ghost use Rattle.carriers.specs.Carrier.{meant as carrier_meant};
 ghost use Rattle.stepping.specs.Labels.{meanings};
 ghost use Rattle.histories.specs.Rules.{refusal, outside, memory_rule, size_rule, cross_rules, finish_rules};
 ghost use Rattle.histories.specs.Stages.{due};
+ghost use Rattle.requests.specs.Table.{runs_of};
 ghost use Rattle.requests.specs.Kept.{progress_of};
+ghost use Rattle.carriers.specs.Rules.{judged};
 
 use crate::stages::Progress;
-use carriers::{Map, Refusal};
+use carriers::{MOST_NODES, MOST_PLACES, Map, Refusal};
 use stepping::Label;
 use weights::Kind;
+
+// The most crossings before the finish.
+const MOST_CROSSED: usize = 15;
 
 // Whether the map has no node, too many nodes or too many places.
 fn is_off_size<W: Kind, M: Map<W>>(map: &M) -> bool
     ensures { result ≡ (size_rule (M.Map.carrier map.now)).0 }
 {
     let nodes = map.node_count();
-    nodes == 0 || nodes > 1024 || map.place_count() > 8192
+    nodes == 0 || nodes > MOST_NODES || map.place_count() > MOST_PLACES
 }
 
+// Each check says anew what has been checked so far, since a `?` hands nothing on.
 impl<W: Kind> Progress<W> {
     // Whether the destination is still to be settled, and is not among so many nodes.
     fn is_outside(&self, nodes: usize) -> bool
@@ -28,51 +34,52 @@ impl<W: Kind> Progress<W> {
         self.runs.count() == 0 && self.destination as usize >= nodes
     }
 
-    // Why any crossing is refused, if it is.
-    fn misfit<M: Map<W>>(&self, map: &M, memory: &[Label<W>]) -> Option<Refusal>
-        ensures { result ≡ refusal (memory_rule (progress_of W.Kind.means self.now) (meanings W.Kind.means memory.now) ∷ size_rule (M.Map.carrier map.now) ∷ []) }
+    // The checks of every crossing.
+    fn check_fit<M: Map<W>>(&self, map: &M, memory: &[Label<W>]) -> Result<(), Refusal>
+        ensures judged { result ≡ judged (refusal (memory_rule (progress_of W.Kind.means self.now) (meanings W.Kind.means memory.now) ∷ size_rule (M.Map.carrier map.now) ∷ [])) tt }
+        ensures memory { IfOk result (λ _. length memory.now ≡ self.now.runs.memory) }
+        ensures places { IfOk result (λ _. (M.Map.carrier map.now).places ≤ 8192) }
     {
-        if memory.len() != self.memory {
-            return Some(Refusal::Memory);
-        }
+        self.check_memory(memory)?;
         if is_off_size(map) {
-            return Some(Refusal::Size);
+            return Err(Refusal::Size);
         }
-        None
+        Ok(())
     }
 
-    // Why a cross is refused, if it is.
-    pub(crate) fn cross_refusal<M: Map<W>>(&self, map: &M, memory: &[Label<W>]) -> Option<Refusal>
-        ensures { result ≡ refusal (cross_rules (progress_of W.Kind.means self.now) (carrier_meant W.Kind.means (M.Map.carrier map.now)) (meanings W.Kind.means memory.now)) }
+    // The checks of a cross.
+    pub(crate) fn check_cross<M: Map<W>>(&self, map: &M, memory: &[Label<W>]) -> Result<(), Refusal>
+        ensures judged { result ≡ judged (refusal (cross_rules (progress_of W.Kind.means self.now) (carrier_meant W.Kind.means (M.Map.carrier map.now)) (meanings W.Kind.means memory.now))) tt }
+        ensures memory { IfOk result (λ _. length memory.now ≡ self.now.runs.memory) }
+        ensures places { IfOk result (λ _. (M.Map.carrier map.now).places ≤ 8192) }
+        ensures room { IfOk result (λ _. length (runs_of self.now.runs) < 15) }
     {
-        if let Some(refusal) = self.misfit(map, memory) {
-            return Some(refusal);
-        }
-        if self.runs.count() >= 15 {
-            return Some(Refusal::Chain);
+        self.check_fit(map, memory)?;
+        if self.runs.count() >= MOST_CROSSED {
+            return Err(Refusal::Chain);
         }
         if self.is_outside(map.node_count()) {
-            return Some(Refusal::Node);
+            return Err(Refusal::Node);
         }
-        None
+        Ok(())
     }
 
-    // Why a finish at the source is refused, if it is.
-    pub(crate) fn finish_refusal<M: Map<W>>(
+    // The checks of a finish at the source.
+    pub(crate) fn check_finish<M: Map<W>>(
         &self,
         map: &M,
         source: u16,
         memory: &[Label<W>],
-    ) -> Option<Refusal>
-        ensures { result ≡ refusal (finish_rules (progress_of W.Kind.means self.now) (carrier_meant W.Kind.means (M.Map.carrier map.now)) source (meanings W.Kind.means memory.now)) }
+    ) -> Result<(), Refusal>
+        ensures judged { result ≡ judged (refusal (finish_rules (progress_of W.Kind.means self.now) (carrier_meant W.Kind.means (M.Map.carrier map.now)) source (meanings W.Kind.means memory.now))) tt }
+        ensures memory { IfOk result (λ _. length memory.now ≡ self.now.runs.memory) }
+        ensures places { IfOk result (λ _. (M.Map.carrier map.now).places ≤ 8192) }
     {
-        if let Some(refusal) = self.misfit(map, memory) {
-            return Some(refusal);
-        }
+        self.check_fit(map, memory)?;
         let nodes = map.node_count();
         if self.is_outside(nodes) || source as usize >= nodes {
-            return Some(Refusal::Node);
+            return Err(Refusal::Node);
         }
-        None
+        Ok(())
     }
 }

@@ -4,7 +4,7 @@ ghost use mathlib.Core.Path.{ap};
 
 use super::*;
 use carriers::{Line, Map, Refusal, Side};
-use histories::{Hop, Routes};
+use histories::{Ending, Hop};
 use std::process::Abort;
 use std::test::Fail;
 use stepping::Label;
@@ -57,53 +57,42 @@ fn without_links(nodes: usize, places: usize) -> Islands {
     Islands { nodes, places }
 }
 
-// The number of the refusal; 0 where the call is accepted.
-fn number<T: Copy>(answer: Result<T, Refusal>) -> u8 {
-    match answer {
-        Ok(_) => 0,
-        Err(refusal) => refusal.number(),
-    }
-}
-
-fn opened(request: &mut Request<Delay>, bound: u32, memory: &mut [Label<Delay>]) -> u8 {
-    number(request.open(Delay::new(bound), 2, memory))
-}
-
-fn crossed(request: &mut Request<Delay>, map: Islands, memory: &mut [Label<Delay>]) -> u8 {
-    number(request.cross(&map, memory))
-}
-
-fn finished(
+fn opened(
     request: &mut Request<Delay>,
-    map: Islands,
-    source: u16,
+    bound: u32,
     memory: &mut [Label<Delay>],
-) -> u8 {
-    number(request.finish(&map, source, memory))
+) -> Result<(), Refusal> {
+    request.open(Delay::new(bound), 2, memory)
 }
 
 #[test]
 fn an_idle_request_is_only_opened(rt: HostRuntime) {
     let mut memory = [label(); 4];
     let mut request = Request::new();
-    assert_eq!(rt; crossed(&mut request, without_links(3, 0), &mut memory), 1);
     assert_eq!(rt;
-        finished(&mut request, without_links(3, 0), 2, &mut memory),
-        1
+        request.cross(&without_links(3, 0), &mut memory),
+        Err(Refusal::Stage)
     );
-    assert_eq!(rt; number(request.count(2, &memory)), 1);
-    assert_eq!(rt; number(request.item(2, 0, &memory)), 1);
-    assert_eq!(rt; opened(&mut request, 1_000_000_000, &mut memory), 3);
-    assert_eq!(rt; opened(&mut request, 8, &mut memory), 0);
-    assert_eq!(rt; opened(&mut request, 8, &mut memory), 1);
+    assert_eq!(rt;
+        request.finish(&without_links(3, 0), 2, &mut memory),
+        Err(Refusal::Stage)
+    );
+    assert_eq!(rt; request.count(2, &memory), Err(Refusal::Stage));
+    assert_eq!(rt; request.item(2, 0, &memory).err(), Some(Refusal::Stage));
+    assert_eq!(rt;
+        opened(&mut request, 1_000_000_000, &mut memory),
+        Err(Refusal::Bound)
+    );
+    assert_eq!(rt; opened(&mut request, 8, &mut memory), Ok(()));
+    assert_eq!(rt; opened(&mut request, 8, &mut memory), Err(Refusal::Stage));
 }
 
 #[test]
 fn an_idle_request_has_nothing_to_expand_or_withdraw(rt: HostRuntime) {
     let mut memory = [label(); 4];
     let mut request = Request::new();
-    assert_eq!(rt; number(request.expand(0, &memory, &mut [])), 1);
-    assert_eq!(rt; number(request.withdraw(&mut memory)), 1);
+    assert_eq!(rt; request.expand(0, &memory, &mut []), Err(Refusal::Stage));
+    assert_eq!(rt; request.withdraw(&mut memory), Err(Refusal::Stage));
 }
 
 #[test]
@@ -115,10 +104,10 @@ fn a_memory_has_at_most_65536_labels(rt: HostRuntime) -> Result<(), Fail> {
     let mut request = Request::new();
     assert_eq!(rt;
         opened(&mut request, 1_000_000_000, memory.as_mut_slice()),
-        2
+        Err(Refusal::Memory)
     );
     let _ = memory.pop();
-    assert_eq!(rt; opened(&mut request, 8, memory.as_mut_slice()), 0);
+    assert_eq!(rt; opened(&mut request, 8, memory.as_mut_slice()), Ok(()));
     Ok(())
 }
 
@@ -126,18 +115,18 @@ fn a_memory_has_at_most_65536_labels(rt: HostRuntime) -> Result<(), Fail> {
 fn a_finished_request_is_only_asked(rt: HostRuntime) {
     let mut memory = [label(); 4];
     let mut request = Request::new();
-    assert_eq!(rt; opened(&mut request, 8, &mut memory), 0);
+    assert_eq!(rt; opened(&mut request, 8, &mut memory), Ok(()));
+    assert!(rt; request.finish(&without_links(3, 0), 2, &mut memory).is_ok());
+    assert_eq!(rt; opened(&mut request, 8, &mut memory), Err(Refusal::Stage));
     assert_eq!(rt;
-        finished(&mut request, without_links(3, 0), 2, &mut memory),
-        0
+        request.cross(&without_links(3, 0), &mut memory),
+        Err(Refusal::Stage)
     );
-    assert_eq!(rt; opened(&mut request, 8, &mut memory), 1);
-    assert_eq!(rt; crossed(&mut request, without_links(3, 0), &mut memory), 1);
     assert_eq!(rt;
-        finished(&mut request, without_links(3, 0), 2, &mut memory),
-        1
+        request.finish(&without_links(3, 0), 2, &mut memory),
+        Err(Refusal::Stage)
     );
-    assert_eq!(rt; number(request.count(2, &memory)), 0);
+    assert!(rt; request.count(2, &memory).is_ok());
 }
 
 #[test]
@@ -145,23 +134,29 @@ fn the_first_refusal_of_a_cross_is_answered(rt: HostRuntime) {
     let mut memory = [label(); 4];
     let mut short = [label(); 3];
     let mut request = Request::new();
-    assert_eq!(rt; opened(&mut request, 8, &mut memory), 0);
-    assert_eq!(rt; crossed(&mut request, without_links(0, 0), &mut short), 2);
-    assert_eq!(rt; crossed(&mut request, without_links(0, 0), &mut memory), 4);
+    assert_eq!(rt; opened(&mut request, 8, &mut memory), Ok(()));
     assert_eq!(rt;
-        crossed(&mut request, without_links(1025, 0), &mut memory),
-        4
+        request.cross(&without_links(0, 0), &mut short),
+        Err(Refusal::Memory)
     );
     assert_eq!(rt;
-        crossed(&mut request, without_links(2, 8193), &mut memory),
-        4
+        request.cross(&without_links(0, 0), &mut memory),
+        Err(Refusal::Size)
     );
-    assert_eq!(rt; crossed(&mut request, without_links(2, 0), &mut memory), 6);
     assert_eq!(rt;
-        crossed(&mut request, without_links(3, 8192), &mut memory),
-        0
+        request.cross(&without_links(1025, 0), &mut memory),
+        Err(Refusal::Size)
     );
-    assert_eq!(rt; crossed(&mut request, without_links(2, 0), &mut memory), 0);
+    assert_eq!(rt;
+        request.cross(&without_links(2, 8193), &mut memory),
+        Err(Refusal::Size)
+    );
+    assert_eq!(rt;
+        request.cross(&without_links(2, 0), &mut memory),
+        Err(Refusal::Node)
+    );
+    assert!(rt; request.cross(&without_links(3, 8192), &mut memory).is_ok());
+    assert!(rt; request.cross(&without_links(2, 0), &mut memory).is_ok());
 }
 
 #[test]
@@ -169,27 +164,24 @@ fn the_first_refusal_of_a_finish_is_answered(rt: HostRuntime) {
     let mut memory = [label(); 4];
     let mut short = [label(); 3];
     let mut request = Request::new();
-    assert_eq!(rt; opened(&mut request, 8, &mut memory), 0);
+    assert_eq!(rt; opened(&mut request, 8, &mut memory), Ok(()));
     assert_eq!(rt;
-        finished(&mut request, without_links(0, 0), 2, &mut short),
-        2
+        request.finish(&without_links(0, 0), 2, &mut short),
+        Err(Refusal::Memory)
     );
     assert_eq!(rt;
-        finished(&mut request, without_links(0, 0), 2, &mut memory),
-        4
+        request.finish(&without_links(0, 0), 2, &mut memory),
+        Err(Refusal::Size)
     );
     assert_eq!(rt;
-        finished(&mut request, without_links(2, 0), 1, &mut memory),
-        6
+        request.finish(&without_links(2, 0), 1, &mut memory),
+        Err(Refusal::Node)
     );
     assert_eq!(rt;
-        finished(&mut request, without_links(3, 0), 3, &mut memory),
-        6
+        request.finish(&without_links(3, 0), 3, &mut memory),
+        Err(Refusal::Node)
     );
-    assert_eq!(rt;
-        finished(&mut request, without_links(3, 0), 1, &mut memory),
-        0
-    );
+    assert!(rt; request.finish(&without_links(3, 0), 1, &mut memory).is_ok());
 }
 
 #[test]
@@ -197,29 +189,31 @@ fn a_question_is_refused_for_another_memory_or_key(rt: HostRuntime) {
     let mut memory = [label(); 4];
     let short = [label(); 3];
     let mut request = Request::new();
-    assert_eq!(rt; opened(&mut request, 8, &mut memory), 0);
-    assert_eq!(rt; number(request.count(2, &short)), 2);
-    assert_eq!(rt; number(request.item(2, 0, &short)), 2);
-    assert_eq!(rt; number(request.item(2, 0, &memory)), 8);
+    assert_eq!(rt; opened(&mut request, 8, &mut memory), Ok(()));
+    assert_eq!(rt; request.count(2, &short), Err(Refusal::Memory));
+    assert_eq!(rt; request.item(2, 0, &short).err(), Some(Refusal::Memory));
+    assert_eq!(rt; request.item(2, 0, &memory).err(), Some(Refusal::Key));
 }
 
 #[test]
 fn a_carrier_alone_lists_the_destination(rt: HostRuntime) -> Result<(), Fail> {
     let mut memory = [label(); 4];
     let mut request = Request::new();
-    assert_eq!(rt; opened(&mut request, 8, &mut memory), 0);
+    assert_eq!(rt; opened(&mut request, 8, &mut memory), Ok(()));
     let ending = request.finish(&without_links(3, 0), 2, &mut memory)?;
-    assert_eq!(rt; ending.settled, 1);
-    match ending.routes {
-        Routes::NoRoute => return Err(Fail::new("no route")),
-        Routes::Listed(count) => assert_eq!(rt; count, 1),
-    }
+    assert_eq!(rt;
+        ending,
+        Ending {
+            routes: Some(1),
+            settled: 1
+        }
+    );
     assert_eq!(rt; request.count(2, &memory)?, 1);
     assert_eq!(rt; request.count(1, &memory)?, 0);
     let item = request.item(2, 0, &memory)?;
     assert_eq!(rt; item.weight.amount(), 0);
     assert_eq!(rt; item.key, 0);
-    assert_eq!(rt; number(request.item(2, 1, &memory)), 8);
+    assert_eq!(rt; request.item(2, 1, &memory).err(), Some(Refusal::Key));
     Ok(())
 }
 
@@ -230,7 +224,7 @@ fn crossed_on(
     memory: &mut [Label<Delay>],
 ) {
     for _ in 0..times {
-        assert_eq!(rt; crossed(request, without_links(3, 0), memory), 0);
+        assert!(rt; request.cross(&without_links(3, 0), memory).is_ok());
     }
 }
 
@@ -238,21 +232,27 @@ fn crossed_on(
 fn a_chain_has_sixteen_carriers(rt: HostRuntime) {
     let mut memory = [label(); 4];
     let mut request = Request::new();
-    assert_eq!(rt; opened(&mut request, 8, &mut memory), 0);
+    assert_eq!(rt; opened(&mut request, 8, &mut memory), Ok(()));
     crossed_on(&rt, &mut request, 15, &mut memory);
-    assert_eq!(rt; crossed(&mut request, without_links(3, 0), &mut memory), 5);
     assert_eq!(rt;
-        finished(&mut request, without_links(3, 0), 0, &mut memory),
-        0
+        request.cross(&without_links(3, 0), &mut memory),
+        Err(Refusal::Chain)
     );
+    assert!(rt; request.finish(&without_links(3, 0), 0, &mut memory).is_ok());
 }
 
 #[test]
 fn a_run_needs_room(rt: HostRuntime) {
     let mut request = Request::new();
-    assert_eq!(rt; opened(&mut request, 8, &mut []), 0);
-    assert_eq!(rt; crossed(&mut request, without_links(3, 0), &mut []), 7);
-    assert_eq!(rt; finished(&mut request, without_links(3, 0), 2, &mut []), 7);
+    assert_eq!(rt; opened(&mut request, 8, &mut []), Ok(()));
+    assert_eq!(rt;
+        request.cross(&without_links(3, 0), &mut []),
+        Err(Refusal::Full)
+    );
+    assert_eq!(rt;
+        request.finish(&without_links(3, 0), 2, &mut []),
+        Err(Refusal::Full)
+    );
 }
 
 #[test]
@@ -260,31 +260,21 @@ fn a_withdrawn_request_is_as_when_made(rt: HostRuntime) {
     let mut memory = [label(); 4];
     let mut short = [label(); 3];
     let mut request = Request::new();
-    assert_eq!(rt; opened(&mut request, 8, &mut memory), 0);
-    assert_eq!(rt;
-        finished(&mut request, without_links(3, 0), 2, &mut memory),
-        0
-    );
-    assert_eq!(rt; number(request.withdraw(&mut short)), 2);
+    assert_eq!(rt; opened(&mut request, 8, &mut memory), Ok(()));
+    assert!(rt; request.finish(&without_links(3, 0), 2, &mut memory).is_ok());
+    assert_eq!(rt; request.withdraw(&mut short), Err(Refusal::Memory));
     assert_eq!(rt; short[0].node, 9);
-    assert_eq!(rt; number(request.withdraw(&mut memory)), 0);
+    assert_eq!(rt; request.withdraw(&mut memory), Ok(()));
     for label in memory {
         assert_eq!(rt; (label.node, label.link, label.next), (0, 0, 0));
         assert_eq!(rt; (label.weight.amount(), label.mark), (0, false));
     }
-    assert_eq!(rt; number(request.count(2, &memory)), 1);
-    assert_eq!(rt; opened(&mut request, 8, &mut short), 0);
+    assert_eq!(rt; request.count(2, &memory), Err(Refusal::Stage));
+    assert_eq!(rt; opened(&mut request, 8, &mut short), Ok(()));
 }
 
-fn nine() -> Hop {
-    Hop {
-        position: 9,
-        link: 9,
-    }
-}
-
-fn seen(hop: Hop) -> (usize, u16) {
-    (hop.position, hop.link)
+fn hop(position: usize, link: u16) -> Hop {
+    Hop { position, link }
 }
 
 // Finished from node 0 over two lines: one node with one link onward, and two nodes with a link in between.
@@ -304,11 +294,9 @@ fn a_key_is_expanded_from_the_source_on(rt: HostRuntime) -> Result<(), Fail> {
     let mut request = Request::new();
     let key = over_two_lines(&mut request, &mut memory)?;
     assert_eq!(rt; key, 2);
-    let mut hops = [nine(); 3];
+    let mut hops = [hop(9, 9); 3];
     assert_eq!(rt; request.expand(key, &memory, &mut hops)?, 2);
-    assert_eq!(rt; seen(hops[0]), (1, 0));
-    assert_eq!(rt; seen(hops[1]), (0, 0));
-    assert_eq!(rt; seen(hops[2]), (9, 9));
+    assert_eq!(rt; hops, [hop(1, 0), hop(0, 0), hop(9, 9)]);
     assert_eq!(rt; request.expand(0, &memory, &mut [])?, 0);
     Ok(())
 }
@@ -319,12 +307,15 @@ fn an_expansion_that_is_refused_writes_nothing(rt: HostRuntime) -> Result<(), Fa
     let short = [label(); 3];
     let mut request = Request::new();
     let key = over_two_lines(&mut request, &mut memory)?;
-    let mut hops = [nine(); 1];
-    assert_eq!(rt; number(request.expand(7, &short, &mut hops)), 2);
-    assert_eq!(rt; number(request.expand(3, &memory, &mut hops)), 8);
-    assert_eq!(rt; number(request.expand(key, &memory, &mut hops)), 9);
+    let mut hops = [hop(9, 9); 1];
+    assert_eq!(rt; request.expand(7, &short, &mut hops), Err(Refusal::Memory));
+    assert_eq!(rt; request.expand(3, &memory, &mut hops), Err(Refusal::Key));
+    assert_eq!(rt;
+        request.expand(key, &memory, &mut hops),
+        Err(Refusal::Short)
+    );
     memory[1].next = 1;
-    assert_eq!(rt; number(request.expand(key, &memory, &mut hops)), 8);
-    assert_eq!(rt; seen(hops[0]), (9, 9));
+    assert_eq!(rt; request.expand(key, &memory, &mut hops), Err(Refusal::Key));
+    assert_eq!(rt; hops, [hop(9, 9)]);
     Ok(())
 }

@@ -2,6 +2,7 @@
 use Rattle.std.proofs.Common.{◌≡◌, ℕ, ◌+◌, ◌<◌, ◌≤◌, true, List, [], ◌∷◌, ◌++◌, length, Some, Option, sym, refl, ap, subst, inl, inr, arith}
 use Rattle.std.specs.List.{slice_get}
 use Rattle.std.proofs.lemmas.List.{take_at, take-append-le}
+use Rattle.std.proofs.lemmas.Option.{slice_get_within}
 use Rattle.weights.specs.Algebra.{Algebra}
 use Rattle.stepping.specs.declared.Label.{Label}
 use Rattle.stepping.specs.Labels.{Labels}
@@ -10,7 +11,7 @@ use Rattle.stepping.specs.Candidates.{made, Candidate, inside, onward}
 use Rattle.stepping.specs.Crossing.{counts}
 use Rattle.stepping.specs.Ways.{Way, along, onto, Records, stops, goes, leaves, Origin, destined, linked}
 use Rattle.stepping.specs.Domain.{Backed}
-use Rattle.stepping.proofs.Places.{nth_below, push_cases, push_old}
+use Rattle.stepping.proofs.Places.{push_cases, push_old}
 use Rattle.stepping.proofs.Covers.{counts_within}
 use Rattle.stepping.proofs.First.{candidate_marked}
 
@@ -75,11 +76,11 @@ module _ (A : Algebra) (V : View A) (run : Labels A) (c : Label A.Weight) where
       → c.next < V.start + length run
   next_below (inside p l k y h s e n q) b =
       let at = ap (λ z. z.next) q in
-      let low = nth_below run k y e in
+      let low = slice_get_within run k y e in
       omega arith
   next_below (onward p l k y h s e n m q) b =
       let at = ap (λ z. z.next) q in
-      let low = nth_below V.before k y e in
+      let low = slice_get_within V.before k y e in
       omega arith
 
   backed_new : AllBacked A V run → Candidate A V run c → counts A V run c ≡ true
@@ -101,7 +102,7 @@ module _ (A : Algebra) (V : View A) (run : Labels A) (c : Label A.Weight) where
       → AllBacked A V (run ++ c ∷ [])
   all_backed_push backed d t k l e =
       elim (push_cases run c k l e) [
-        | inl o ↦ backed_push k l (let h = nth_below run k l o in omega arith) (backed k l o)
+        | inl o ↦ backed_push k l (let h = slice_get_within run k l o in omega arith) (backed k l o)
         | inr o ↦
             subst
             (Backed A V (run ++ c ∷ []) k)

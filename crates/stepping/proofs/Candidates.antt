@@ -3,15 +3,16 @@ use Rattle.std.proofs.Common.{◌≡◌, ℕ, zero, suc, ◌+◌, ◌<◌, Bool,
 use Rattle.std.specs.List.{range_with_len, ContainsAt as Has, AllByRecursion as All, slice_get}
 use Rattle.std.proofs.ByRecursion.{has_append_right}
 use Rattle.std.proofs.lemmas.Bool.{eqb-true, eq-eqb, and_parts, and_from, cond_both, both_ways}
+use Rattle.std.proofs.lemmas.Float.{T_from_true}
 use Rattle.weights.specs.Algebra.{Algebra}
-use Rattle.carriers.specs.declared.Side.{Side}
-use Rattle.carriers.specs.declared.Side.TheVariants.{Inside, Onward}
+use Rattle.carriers.specs.declared.sides.Side.{Side}
+use Rattle.carriers.specs.declared.sides.Side.TheVariants.{Inside, Onward}
 use Rattle.carriers.specs.Carrier.{Link}
 use Rattle.stepping.specs.declared.Label.{Label}
 use Rattle.stepping.specs.Labels.{Labels}
 use Rattle.stepping.specs.View.{View, Present}
 use Rattle.stepping.specs.Candidates.{made, of_labels, of_side, of_place, candidates, Candidate, inside, onward}
-use Rattle.stepping.proofs.Tests.{true_T, T_true}
+use Rattle.stepping.proofs.Tests.{T_true}
 use Rattle.stepping.proofs.Joined.{all_joined, all_counting, has_joined, has_counting}
 use Rattle.stepping.proofs.Places.{none_some, some_same}
 
@@ -76,7 +77,7 @@ module _ (A : Algebra) (V : View A) (run : Labels A) where
       (λ i y e n t. inside p l i y h s e n refl)
   side_are p l h Onward s =
       labels_are A V p l (λ y. y.mark) (Candidate A V run) V.before V.before_start
-      (λ i y e n t. onward p l i y h s e n (true_T y.mark t) refl)
+      (λ i y e n t. onward p l i y h s e n (T_from_true y.mark t) refl)
 
   place_are : (p : ℕ) → p < V.places → (o : Option (Link A.Weight)) → V.at p ≡ o
       → All (Candidate A V run) (of_place A V run p o)

@@ -2,13 +2,14 @@
 use Rattle.std.proofs.Common.{◌≡◌, ℕ, zero, suc, Bool, true, false, not, ◌&&◌, T, eqb, [], ◌∷◌, ◌++◌, Some, refl, inl, inr}
 use Rattle.std.specs.List.{slice_get}
 use Rattle.std.proofs.lemmas.Bool.{eqb-true, eq-eqb, and_parts, and_from, and_cases, or_cases, or_parts, or_from, not-true, not-false, not_from_false, both_ways}
+use Rattle.std.proofs.lemmas.Float.{T_from_true}
 use Rattle.weights.specs.Algebra.{Algebra}
 use Rattle.stepping.specs.declared.Label.{Label}
 use Rattle.stepping.specs.Labels.{Labels}
 use Rattle.stepping.specs.View.{View}
 use Rattle.stepping.specs.Crossing.{covers, counts}
 use Rattle.stepping.specs.Domain.{Covered}
-use Rattle.stepping.proofs.Tests.{true_T, T_true, false_T}
+use Rattle.stepping.proofs.Tests.{T_true, false_T}
 use Rattle.stepping.proofs.Places.{none_some, some_same}
 
 module _ (A : Algebra) (v : ℕ) (w : A.Weight) where
@@ -26,7 +27,7 @@ module _ (A : Algebra) (v : ℕ) (w : A.Weight) where
               label = l;
               stands = refl;
               there = eqb-true l.node v both.0;
-              as_good = true_T (A.good l.weight w) both.1;
+              as_good = T_from_true (A.good l.weight w) both.1;
             }
         | inr k ↦
             let m = covers_found ls k in
@@ -59,7 +60,7 @@ module _ (A : Algebra) (V : View A) (run : Labels A) (d : Label A.Weight) where
   covered = covers A run d.node d.weight
 
   pub counts_within : counts A V run d ≡ true → T (A.good d.weight V.bounds)
-  counts_within e = true_T within (and_parts within (not covered) e).0
+  counts_within e = T_from_true within (and_parts within (not covered) e).0
 
   pub counts_apart : counts A V run d ≡ true → (k : ℕ) (l : Label A.Weight) → slice_get run k ≡ Some l
       → l.node ≡ d.node → T (A.good l.weight d.weight) → ⊥

@@ -2,8 +2,9 @@
 use Rattle.std.proofs.Common.{◌≡◌, ℕ, zero, suc, ◌≤◌, List, [], ◌∷◌, length, Some, sym, refl, ap, ◌∙◌, subst, arith}
 use Rattle.std.specs.List.{ContainsAt as Has, remove, slice_get}
 use Rattle.std.proofs.lemmas.List.Edits.{length-remove}
+use Rattle.std.proofs.lemmas.Option.{slice_get_within}
 use Rattle.stepping.specs.Number.{Lists}
-use Rattle.stepping.proofs.Places.{none_some, some_same, nth_below, nth_has}
+use Rattle.stepping.proofs.Places.{none_some, some_same, nth_has}
 
 removed_keeps : {X : Type 0} (k j : ℕ) (xs : List X) (x : X) → slice_get xs j ≡ Some x → (k ≡ j → ⊥)
     → (i : ℕ) × (slice_get (remove xs k) i ≡ Some x)
@@ -25,7 +26,7 @@ matched_le {X} {Y} R (x ∷ xs) ys f d =
     let here = f 0 x refl in
     let k = here.0 in
     let y = here.1 in
-    let in_ys = nth_below ys k y here.2 in
+    let in_ys = slice_get_within ys k y here.2 in
     let shorter = length-remove ys k in_ys in
     let rest : (i : ℕ) (z : X) → slice_get xs i ≡ Some z → (m : ℕ) × (w : Y) × (slice_get (remove ys k) m ≡ Some w) × R z w =
     λ i z e.

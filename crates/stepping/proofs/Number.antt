@@ -2,6 +2,7 @@
 use Rattle.std.proofs.Common.{◌≡◌, ℕ, ◌<◌, T, eqb, List, length, Some, filter, Option, sym, ap, ◌∙◌, subst, inl, inr, arith}
 use Rattle.std.specs.List.{slice_get}
 use Rattle.std.proofs.lemmas.Bool.{cases_eq, cases_Bool, cases_order, eqb-true, eq-eqb}
+use Rattle.std.proofs.lemmas.Float.{T_from_true}
 use Rattle.weights.specs.Algebra.{Algebra, Laws}
 use Rattle.stepping.specs.declared.Label.{Label}
 use Rattle.stepping.specs.Labels.{Labels}
@@ -9,7 +10,7 @@ use Rattle.stepping.specs.View.{View}
 use Rattle.stepping.specs.Ways.{Way, arrived, along, onto}
 use Rattle.stepping.specs.Domain.{Ended}
 use Rattle.stepping.specs.Number.{NonDominated, Lists, Within, Numbered, Number, weights_at}
-use Rattle.stepping.proofs.Tests.{true_T, false_T}
+use Rattle.stepping.proofs.Tests.{false_T}
 use Rattle.stepping.proofs.Places.{some_same, Pairs}
 use Rattle.stepping.proofs.Kept.{map_from, map_to, kept_from, kept_to, kept_pairs}
 use Rattle.stepping.proofs.Matches.{lists_length}
@@ -46,7 +47,7 @@ module _ (A : Algebra) (laws : Laws A) (V : View A) (run : Labels A) (f : Ended 
       let b = f.sound m.index l m.stands in
       let same : l.weight ≡ x =
       elim (cases_Bool (A.good x l.weight)) [
-        | inl t ↦ laws.good_antisym l.weight x m.as_good (true_T (A.good x l.weight) t)
+        | inl t ↦ laws.good_antisym l.weight x m.as_good (T_from_true (A.good x l.weight) t)
         | inr t ↦
             absurd (n.unbeaten l.weight b.hops b.last
             (subst (λ u. Way A V u l.weight b.hops b.last) m.there b.way)

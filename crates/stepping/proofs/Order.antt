@@ -2,11 +2,12 @@
 use Rattle.std.proofs.Common.{◌≡◌, ℕ, ◌<◌, Bool, true, false, not, ◌&&◌, ◌||◌, T, eqb, ltb, ◌⊎◌, inl, inr, arith}
 use Rattle.std.proofs.lemmas.Bool.{and_parts, and_cases, or_cases, or_parts, not-true, not-false, cases_Bool}
 use Rattle.std.proofs.lemmas.Bool.Decides.{nat_tests}
+use Rattle.std.proofs.lemmas.Float.{T_from_true}
 use Rattle.weights.specs.Algebra.{Algebra, Laws}
 use Rattle.stepping.specs.declared.Label.{Label}
 use Rattle.stepping.specs.Crossing.{precedes, lower}
 use Rattle.stepping.specs.Choice.{Precedes, by_weight, by_node, by_link, by_next}
-use Rattle.stepping.proofs.Tests.{true_T, false_T}
+use Rattle.stepping.proofs.Tests.{false_T}
 use Rattle.stepping.proofs.Weights.{NotBefore, not_before_trans, before_not_after, same_weight}
 
 -- the order of three numbers, of which `lower` is the case of labels
@@ -46,7 +47,7 @@ module _ (A : Algebra) (laws : Laws A) where
   pub not_after_trans : (x y z : Label A.Weight) → NotAfter A x y → NotAfter A y z → NotAfter A x z
   not_after_trans x y z p q =
       elim (cases_Bool (A.before x.weight z.weight)) [
-        | inl e ↦ inl (true_T (A.before x.weight z.weight) e)
+        | inl e ↦ inl (T_from_true (A.before x.weight z.weight) e)
         | inr e ↦
             let h = false_T (A.before x.weight z.weight) e in
             elim p [
@@ -71,7 +72,7 @@ module _ (A : Algebra) (laws : Laws A) where
   precedes_won x y e =
       let back = A.before y.weight x.weight in
       elim (or_cases (A.before x.weight y.weight) (not back && lower x y) e) [
-        | inl k ↦ inl (true_T (A.before x.weight y.weight) k)
+        | inl k ↦ inl (T_from_true (A.before x.weight y.weight) k)
         | inr k ↦
             let h = and_parts (not back) (lower x y) k in
             inr (
@@ -85,7 +86,7 @@ module _ (A : Algebra) (laws : Laws A) where
       let back = A.before y.weight x.weight in
       let h = or_parts (A.before x.weight y.weight) (not back && lower x y) e in
       elim (and_cases (not back) (lower x y) h.1) [
-        | inl k ↦ inl (true_T back (not-false back k))
+        | inl k ↦ inl (T_from_true back (not-false back k))
         | inr k ↦ inr (false_T (A.before x.weight y.weight) h.0, k)
       ]
 
@@ -97,7 +98,7 @@ module _ (A : Algebra) (laws : Laws A) where
   not_after_cases x y (inl k) = inr (by_weight k)
   not_after_cases x y (inr k) =
       elim (cases_Bool (A.before x.weight y.weight)) [
-        | inl t ↦ inr (by_weight (true_T (A.before x.weight y.weight) t))
+        | inl t ↦ inr (by_weight (T_from_true (A.before x.weight y.weight) t))
         | inr t ↦
             let w = same_weight A laws x.weight y.weight (false_T (A.before x.weight y.weight) t) k.0 in
             elim (low_cases x.node x.link x.next y.node y.link y.next k.1) [

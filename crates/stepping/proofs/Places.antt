@@ -1,18 +1,13 @@
 -- What stands at which index of a list, and of a list that grows at its end.
 use Rattle.std.proofs.Common.{◌≡◌, ℕ, zero, suc, ◌<◌, ◌⊎◌, List, [], ◌∷◌, ◌++◌, length, take, Some, None, Option, sym, refl, ap, ◌∙◌, subst, inl, inr, arith}
 use Rattle.std.specs.List.{ContainsAt as Has, slice_get}
-use Rattle.std.proofs.lemmas.Option.{slice_get-get_or}
+use Rattle.std.proofs.lemmas.Option.{slice_get-get_or, slice_get_within}
 
 pub none_some : {X : Type 0} (x : X) {G : Type 0} → ◌≡◌ {A = Option X} None (Some x) → G
 none_some {X} x {G} e = absurd (let z : ◌≡◌ {A = ℕ} 0 1 = cc in omega arith)
 
 pub some_same : {X : Type 0} (x y : X) → ◌≡◌ {A = Option X} (Some x) (Some y) → x ≡ y
 some_same x y e = cc
-
-pub nth_below : {X : Type 0} (xs : List X) (k : ℕ) (x : X) → slice_get xs k ≡ Some x → k < length xs
-nth_below [] k x e = none_some x e
-nth_below (y ∷ ys) zero x e = omega arith
-nth_below (y ∷ ys) (suc k) x e = let h = nth_below ys k x e in omega arith
 
 pub nth_take : {X : Type 0} (n : ℕ) (xs : List X) (k : ℕ) (x : X) → slice_get (take n xs) k ≡ Some x
     → (k < n) × (slice_get xs k ≡ Some x)
@@ -26,7 +21,7 @@ nth_has xs x h = (h.0, subst (λ y. slice_get xs h.0 ≡ Some y) (h.2 x) (slice_
 
 pub has_nth : {X : Type 0} (xs : List X) (k : ℕ) (x : X) → slice_get xs k ≡ Some x → Has xs x
 has_nth xs k x e =
-    let l = nth_below xs k x e in
+    let l = slice_get_within xs k x e in
     (k, l, λ d. some_same _ x (sym (slice_get-get_or xs k d l) ∙ e))
 
 pub push_cases : {X : Type 0} (xs : List X) (y : X) (k : ℕ) (x : X) → slice_get (xs ++ y ∷ []) k ≡ Some x
@@ -50,7 +45,7 @@ only_same it k x e = elim (push_cases [] it k x e) [ inl o ↦ none_some x o | i
 pub only_once : {X : Type 0} (it : X) (i j : ℕ) (x y : X) → slice_get (it ∷ []) i ≡ Some x → slice_get (it ∷ []) j ≡ Some y
     → i < j → ⊥
 only_once it i j x y a b h =
-    let p = nth_below (it ∷ []) j y b in
+    let p = slice_get_within (it ∷ []) j y b in
     omega arith
 
 -- R holds of each two elements in their order
@@ -64,7 +59,7 @@ pairs_push R xs c h last i j x y e f l =
       | inl q ↦
           elim (push_cases xs c i x e) [
             | inl p ↦ h i j x y p q l
-            | inr p ↦ absurd (let b = nth_below xs j y q in omega arith)
+            | inr p ↦ absurd (let b = slice_get_within xs j y q in omega arith)
           ]
       | inr q ↦
           elim (push_cases xs c i x e) [

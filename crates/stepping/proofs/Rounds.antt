@@ -6,8 +6,8 @@ use Rattle.std.proofs.lemmas.Nat.{mul-le}
 use Rattle.std.proofs.lemmas.List.FromFn.{length-range_with_len}
 use Rattle.std.proofs.lemmas.Bool.{cond_both}
 use Rattle.weights.specs.Algebra.{Algebra}
-use Rattle.carriers.specs.declared.Side.{Side}
-use Rattle.carriers.specs.declared.Side.TheVariants.{Inside, Onward}
+use Rattle.carriers.specs.declared.sides.Side.{Side}
+use Rattle.carriers.specs.declared.sides.Side.TheVariants.{Inside, Onward}
 use Rattle.carriers.specs.Carrier.{Link}
 use Rattle.stepping.specs.declared.Label.{Label}
 use Rattle.stepping.specs.Labels.{Labels}

@@ -2,10 +2,6 @@
 use Rattle.std.proofs.Common.{◌≡◌, Bool, true, false, T, refl}
 use Rattle.std.proofs.lemmas.Bool.{both_ways}
 
-pub true_T : (b : Bool) → b ≡ true → T b
-true_T true e = tt
-true_T false e = absurd (both_ways false refl e)
-
 pub T_true : (b : Bool) → T b → b ≡ true
 T_true true t = refl
 T_true false t = absurd t

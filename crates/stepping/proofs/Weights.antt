@@ -1,8 +1,9 @@
 -- What the laws of a weight kind give of its two orders.
 use Rattle.std.proofs.Common.{◌≡◌, T, sym, subst, inl, inr}
 use Rattle.std.proofs.lemmas.Bool.{cases_Bool}
+use Rattle.std.proofs.lemmas.Float.{T_from_true}
 use Rattle.weights.specs.Algebra.{Algebra, Laws}
-use Rattle.stepping.proofs.Tests.{true_T, false_T}
+use Rattle.stepping.proofs.Tests.{false_T}
 
 -- x is not before y
 abbrev pub NotBefore : (A : Algebra) → A.Weight → A.Weight → Type 0
@@ -23,7 +24,7 @@ module _ (A : Algebra) (laws : Laws A) where
   good_unless : (x y : A.Weight) → ((x ≡ y → ⊥) → ⊥) → T (A.good x y)
   good_unless x y h =
       elim (cases_Bool (A.good x y)) [
-        | inl t ↦ true_T (A.good x y) t
+        | inl t ↦ T_from_true (A.good x y) t
         | inr t ↦ absurd (h (λ e. false_T (A.good x y) t (subst (λ w. T (A.good x w)) e (laws.good_refl x))))
       ]
 

@@ -9,8 +9,8 @@
 use Rattle.std.specs.Prelude.{◌≡◌, ℕ, suc, ◌+◌, Bool, true, cond, ◌&&◌, T, [], ◌∷◌, Some, None, Option, ◌==◌}
 use Rattle.std.specs.List.{range_with_len, flat_map, slice_get}
 use Rattle.weights.specs.Algebra.{Algebra}
-use Rattle.carriers.specs.declared.Side.{Side}
-use Rattle.carriers.specs.declared.Side.TheVariants.{Inside, Onward}
+use Rattle.carriers.specs.declared.sides.Side.{Side}
+use Rattle.carriers.specs.declared.sides.Side.TheVariants.{Inside, Onward}
 use Rattle.carriers.specs.Carrier.{Link}
 use Rattle.stepping.specs.declared.Label.{Label}
 use Rattle.stepping.specs.Labels.{Labels}

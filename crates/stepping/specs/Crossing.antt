@@ -14,7 +14,7 @@
 use Rattle.std.specs.Prelude.{ℕ, zero, suc, ◌-◌, Bool, true, false, cond, not, ◌&&◌, ◌||◌, List, [], ◌∷◌, ◌++◌, length, Some, None, fold, Option, ◌==◌, nat_lt}
 use Rattle.weights.specs.Algebra.{Algebra}
 use Rattle.stepping.specs.declared.Label.{Label}
-use Rattle.stepping.specs.Labels.{Labels, no_link}
+use Rattle.stepping.specs.Labels.{Labels, arrived}
 use Rattle.stepping.specs.View.{View}
 use Rattle.stepping.specs.Candidates.{candidates}
 
@@ -54,7 +54,7 @@ settle A V zero run = continue run (λ c. full) (first A V run)
 settle A V (suc n) run = continue run (λ c. settle A V n (run ++ c ∷ [])) (first A V run)
 
 abbrev pub arrival : (A : Algebra) (V : View A) → ℕ → Label A.Weight
-arrival A V t = record { node = t; weight = A.neutral; link = no_link; next = 0; mark = V.marks t }
+arrival A V t = arrived A.neutral t (V.marks t)
 
 abbrev pub beginning_at : (A : Algebra) (V : View A) → Option ℕ → Labels A
 beginning_at A V None = []

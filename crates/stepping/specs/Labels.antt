@@ -4,7 +4,8 @@
 --   meanings f ls   the same of each label of ls
 --   blank w         the label of an unused place, where w is the neutral weight
 --   no_link         the link of the destination's own label
-use Rattle.std.specs.Prelude.{ℕ, false, List, map}
+--   arrived w v m   the destination's own label, where it is the node v, w is the neutral weight, and m the mark
+use Rattle.std.specs.Prelude.{ℕ, Bool, false, List, map}
 use Rattle.weights.specs.Algebra.{Algebra}
 use Rattle.stepping.specs.declared.Label.{Label}
 
@@ -22,3 +23,6 @@ blank w = record { node = 0; weight = w; link = 0; next = 0; mark = false }
 
 abbrev pub no_link : ℕ
 no_link = 65535
+
+abbrev pub arrived : {W : Type 0} → W → ℕ → Bool → Label W
+arrived w v m = record { node = v; weight = w; link = no_link; next = 0; mark = m }

@@ -8,7 +8,7 @@
 use Rattle.std.specs.Prelude.{◌≡◌, ℕ, ◌+◌, T, List, [], ◌∷◌, take, Some, None, Option}
 use Rattle.std.specs.List.{slice_get}
 use Rattle.weights.specs.Algebra.{Algebra}
-use Rattle.carriers.specs.declared.Side.TheVariants.{Inside, Onward}
+use Rattle.carriers.specs.declared.sides.Side.TheVariants.{Inside, Onward}
 use Rattle.carriers.specs.Carrier.{Link}
 use Rattle.stepping.specs.declared.Label.{Label}
 use Rattle.stepping.specs.Labels.{Labels, no_link}

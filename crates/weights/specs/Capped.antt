@@ -2,15 +2,16 @@
 --   UpTo cap    a number that is at most cap
 --   cut cap n   the lesser of n and cap
 use Rattle.std.specs.Prelude.{◌≡◌, ℕ, ◌≤◌, min, T, nat_le}
-use Rattle.std.proofs.Common.{ap, subst, arith, leb→le, le→leb}
+use Rattle.std.proofs.Common.{ap, subst, leb→le, le→leb}
 use Rattle.std.proofs.Math.Dec.{T_prop}
+use Rattle.std.proofs.Math.Nat.{min-le_right}
 
 pub record UpTo (cap : ℕ) : Type 0 where
   pub amount : ℕ
   pub low : T (nat_le amount cap)
 
 abbrev pub cut : (cap n : ℕ) → UpTo cap
-cut cap n = record { amount = min n cap; low = le→leb (min n cap) cap (omega arith) }
+cut cap n = record { amount = min n cap; low = le→leb (min n cap) cap (min-le_right n cap) }
 
 pub within : {cap : ℕ} (a : UpTo cap) → a.amount ≤ cap
 within {cap} a = leb→le a.amount cap a.low

@@ -8,7 +8,7 @@ use crate::Kind;
 use std::fmt;
 
 // A set of up to 32 risk groups, group i present where bit i is set.
-#[derive(Clone, Copy)]
+#[derive(Clone, Copy, PartialEq, Eq, Debug)]
 pub struct Colours {
     pub bits: u32,
 }
@@ -48,7 +48,6 @@ impl fmt::Display for Colours {
     ghost output = { λ c. Some (decimal c.bits) };
 
     fn fmt<W: fmt::Write>(&self, f: &mut fmt::Formatter<W>) -> fmt::Result {
-        let bits = self.bits;
-        write!(f, "{bits}")
+        write!(f, "{}", self.bits)
     }
 }

@@ -39,13 +39,8 @@ impl<F: Kind, S: Kind> Kind for Pair<F, S> {
     }
 
     fn before(self, other: Pair<F, S>) -> bool {
-        if self.first.before(other.first) {
-            true
-        } else if other.first.before(self.first) {
-            false
-        } else {
-            self.second.before(other.second)
-        }
+        self.first.before(other.first)
+            || (!other.first.before(self.first) && self.second.before(other.second))
     }
 
     fn may_bound(self) -> bool {
@@ -58,8 +53,6 @@ impl<F: fmt::Display, S: fmt::Display> fmt::Display for Pair<F, S> {
     ghost output = { λ p. spaced (F.Display.output p.first) (S.Display.output p.second) };
 
     fn fmt<W: fmt::Write>(&self, f: &mut fmt::Formatter<W>) -> fmt::Result {
-        let first = &self.first;
-        let second = &self.second;
-        write!(f, "{first} {second}")
+        write!(f, "{} {}", self.first, self.second)
     }
 }

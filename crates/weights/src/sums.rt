@@ -95,7 +95,6 @@ impl<U> fmt::Display for Sum<U> {
     ghost output = { λ s. Some (decimal (min s.number top)) };
 
     fn fmt<W: fmt::Write>(&self, f: &mut fmt::Formatter<W>) -> fmt::Result {
-        let amount = self.amount();
-        write!(f, "{amount}")
+        write!(f, "{}", self.amount())
     }
 }

@@ -9,7 +9,7 @@ use crate::Kind;
 use std::fmt;
 
 // A number of Mbit/s.
-#[derive(Clone, Copy)]
+#[derive(Clone, Copy, PartialEq, Eq, Debug)]
 pub struct Width {
     pub mbits: u32,
 }
@@ -49,6 +49,7 @@ impl fmt::Display for Width {
     ghost output = { λ w. Some (decimal (min w.mbits all)) };
 
     fn fmt<W: fmt::Write>(&self, f: &mut fmt::Formatter<W>) -> fmt::Result {
+        // A local, since the proof knows the range of a local and not of a field.
         let mbits = self.mbits;
         write!(f, "{mbits}")
     }

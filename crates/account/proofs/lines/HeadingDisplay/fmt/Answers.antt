@@ -9,5 +9,5 @@ returns-clause-writes g c p e =
     let two = c.in_ok-write-2.ensures.writes one.plain refl in
     let three = c.write-3.ensures.writes two.plain e in
     has_written_of_eq took _ _ _ _
-    (simp (append_assoc, c.selection_name-selection.ensures, c.saturating_sub-last.ensures))
+    (simp (append_assoc, c.selection_name.ensures, c.saturating_sub.ensures))
     (has_written_append took _ _ _ _ _ one (has_written_append took _ _ _ _ _ two three))

@@ -1,95 +1,17 @@
-use Rattle.std.proofs.Common.{◌≡◌, ◌+◌, ◌≤◌, eqb, length, take, drop, Ok, Err, sym, refl, ap, ◌∙◌, arith, rules}
-use Rattle.std.proofs.lemmas.List.{length-map}
-use Rattle.std.proofs.lemmas.Bool.{false≢true}
+use Rattle.std.proofs.Common.{◌≡◌, Err, ap, ◌∙◌, length, rules}
 use Rattle.carriers.specs.Carrier.{meant as carrier_meant}
-use Rattle.stepping.specs.Labels.{meant, meanings}
-use Rattle.histories.specs.Runs.{used}
-use Rattle.histories.specs.Stages as stages
-use Rattle.histories.specs.Crossings.{outcome}
-use Rattle.histories.specs.Calls.{routes_of, on_finish}
-use Rattle.requests.specs.declared.stages.Stage.TheVariants.{Open}
-use Rattle.requests.specs.Kept.{runs_of, progress_of, stage_of, sound, in_use, did}
-use Rattle.requests.proofs.Keeping.{parts}
-use Rattle.requests.proofs.Passing.{open_to_finish, finish_passes}
-use Rattle.requests.proofs.Moving.{ending, finishes, finish_same, full_alone, full_same, made_none}
+use Rattle.requests.proofs.Moving.{finish_ends, finish_stops}
 use Rattle.requests.proofs.requests_kept.Request.finish.Goals as goal
 
-pub cross-requires : goal.cross-requires
-cross-requires g c =
-    let f = g.W.Kind.means in
-    let p = c.in_ok-progress.progress in
-    let m = c.args.memory.now in
-    let carrier = g.M.Map.carrier c.args.map.now in
-    let is = open_to_finish p c.args.self.now.stage c.in_ok-progress.ensures in
-    let passes = finish_passes (progress_of f p) (carrier_meant f carrier) (meanings f m) c.args.source c.in_default.ensures in
-    (sym (ap sound is) ∙ c.args.self.now.kept, (sym (length-map m (meant f)) ∙ passes.0, passes.1))
-
-pub returns-in_err-settled : goal.returns-in_err-settled
-returns-in_err-settled g c =
+pub returns-in_err-settled-clause-call : goal.returns-in_err-settled-clause-call
+returns-in_err-settled-clause-call g c =
     let k = g.W.Kind in
-    let f = k.means in
-    let p = c.in_ok-progress.progress in
-    let m = c.args.memory.now in
-    let l = c.cross.new.memory in
-    let v = c.args.source in
     let e = c.in_err-settled.field-0.0 in
-    let carrier = carrier_meant f (g.M.Map.carrier c.args.map.now) in
-    let o = outcome k.algebra (progress_of f p) carrier (λ u. eqb u v) (meanings f m) in
-    let is = open_to_finish p c.args.self.now.stage c.in_ok-progress.ensures in
-    let told = c.in_err-settled.ensures in
-    let q = progress_of f c.cross.new.self in
-    let r = c.from_residual-in_err-settled.result in
-    let err : r ≡ Err e = search rules in
-    record {
-      call = ap (λ s. did f s l r) is
-          ∙ ap (λ t. did f (Open p) l t) err
-          ∙ full_same k.algebra (progress_of f p) (meanings f m) q (meanings f l) e stages.finished (ending v (used (runs_of p.runs))) o told.call
-          ∙ finishes k.algebra (progress_of f p) (meanings f m) v carrier c.in_default.ensures
-          ∙ sym (ap (λ s. on_finish k.algebra (stage_of f s) carrier v (meanings f m)) is);
-      same = λ _. refl;
-      memory = λ _ h. absurd (h (err ∙ ap Err (full_alone k.algebra (progress_of f p) (meanings f m) q (meanings f l) e o told.call)));
-      used = ap (λ s. take (in_use s) l) is ∙ told.used ∙ sym (ap (λ s. take (in_use s) m) is);
-      rest = made_none r _ e err;
-    }
+    let err : c.from_residual-in_err-settled.result ≡ Err e = search rules in
+    finish_stops k.algebra k.means c.in_ok-progress.progress c.args.memory.now c.cross.new.self c.cross.new.memory e c.args.self.now.stage _ (carrier_meant k.means (g.M.Map.carrier c.args.map.now)) c.args.source err c.in_ok-progress.ensures c.in_ok-check_finish.ensures.judged c.in_err-settled.ensures.call
 
-pub count-listed-requires : goal.count-listed-requires
-count-listed-requires g c =
-    let f = g.W.Kind.means in
-    let p = c.in_ok-progress.progress in
-    let m = c.args.memory.now in
-    let carrier = g.M.Map.carrier c.args.map.now in
-    let is = open_to_finish p c.args.self.now.stage c.in_ok-progress.ensures in
-    let kept = parts 15 p (sym (ap sound is) ∙ c.args.self.now.kept) in
-    let passes = finish_passes (progress_of f p) (carrier_meant f carrier) (meanings f m) c.args.source c.in_default.ensures in
-    let long = sym (length-map m (meant f)) ∙ passes.0 in
-    let told = c.in_ok-settled.ensures in
-    (omega (arith, told.count), omega (arith, told.room.0, told.room.1, c.cross.auto.memory))
-
-pub returns : goal.returns
-returns g c =
+pub returns-clause-call : goal.returns-clause-call
+returns-clause-call g c =
     let k = g.W.Kind in
-    let f = k.means in
-    let p = c.in_ok-progress.progress in
-    let m = c.args.memory.now in
-    let l = c.cross.new.memory in
-    let v = c.args.source in
-    let n = c.in_ok-settled.settled in
-    let carrier = carrier_meant f (g.M.Map.carrier c.args.map.now) in
-    let o = outcome k.algebra (progress_of f p) carrier (λ u. eqb u v) (meanings f m) in
-    let is = open_to_finish p c.args.self.now.stage c.in_ok-progress.ensures in
-    let kept = parts 15 p (sym (ap sound is) ∙ c.args.self.now.kept) in
-    let passes = finish_passes (progress_of f p) carrier (meanings f m) v c.in_default.ensures in
-    let within : used (runs_of p.runs) ≤ length (meanings f m) = omega (arith, passes.0) in
-    let told = c.in_ok-settled.ensures in
-    let q = progress_of f c.cross.new.self in
-    let counted = c.routes.ensures ∙ ap routes_of c.count-listed.ensures in
-    record {
-      call = ap (λ t. record { stage = stages.finished q; labels = meanings f l; answer = Ok (record { routes = t; settled = n }) }) counted
-          ∙ finish_same k.algebra (progress_of f p) (meanings f m) v q (meanings f l) n o within told.call
-          ∙ finishes k.algebra (progress_of f p) (meanings f m) v carrier c.in_default.ensures
-          ∙ sym (ap (λ s. on_finish k.algebra (stage_of f s) carrier v (meanings f m)) is);
-      same = λ e. absurd (false≢true e);
-      memory = λ e. absurd (false≢true e);
-      used = ap (λ s. take (in_use s) l) is ∙ told.used ∙ sym (ap (λ s. take (in_use s) m) is);
-      rest = ap (λ s. drop (in_use s + n) l) is ∙ told.rest ∙ sym (ap (λ s. drop (in_use s + n) m) is);
-    }
+    finish_ends k.algebra k.means c.in_ok-progress.progress c.args.memory.now c.args.source (carrier_meant k.means (g.M.Map.carrier c.args.map.now)) c.args.self.now.stage c.cross.new.self c.cross.new.memory c.in_ok-settled.settled c.count-listed.result c.then_some.result c.in_ok-progress.ensures c.in_ok-check_finish.ensures.judged c.in_ok-check_finish.ensures.memory c.in_ok-settled.ensures.call
+    (c.count-listed.ensures ∙ ap length (c.latest_labels.ensures c.args.source)) c.then_some.ensures
