@@ -15,7 +15,7 @@ mod lines;
 // What a chain file says, or why it is refused.
 #[derive(Clone, Copy)]
 pub struct Account<'a> {
-    verdict: Result<Chain<'a>, Refusal>,
+    pub verdict: Result<Chain<'a>, Refusal>,
 }
 
 impl<'a> Account<'a> {

@@ -1,13 +1,15 @@
 -- What a verdict on bytes tells of the faults that it looked for.
-use Rattle.std.proofs.Common.{◌≡◌, ℕ, ◌<◌, ◌≤◌, Bool, true, false, not, List, [], ◌∷◌, length, drop, Some, None, Ok, Err, Option, sym, refl, ap, ◌∙◌, arith, length-drop}
+use Rattle.std.proofs.Common.{◌≡◌, ℕ, ◌<◌, ◌≤◌, Bool, true, false, not, List, [], ◌∷◌, length, take, drop, ◌==◌, Some, None, Ok, Err, Option, sym, refl, ap, ◌∙◌, arith, length-drop}
 use Rattle.std.proofs.lemmas.Bool.{lt-ltb, le-ltb, cond-true, cond-false}
 use Rattle.carriers.specs.declared.refusals.Refusal.{Refusal}
-use Rattle.carriers.specs.declared.refusals.Refusal.TheVariants.{Length, Field}
+use Rattle.carriers.specs.declared.refusals.Refusal.TheVariants.{Mark, Version, Length, Field}
+use Rattle.std.specs.Str.{bytes_eq}
+use Rattle.books.specs.Bytes.{u16_at}
 use Rattle.books.specs.BookLayout.{book_size}
-use Rattle.carriers.specs.Rules.{refusal}
+use Rattle.carriers.specs.Rules.{Rule, refusal}
 use Rattle.books.specs.ChainLayout.{books_fault}
 use Rattle.carriers.specs.Rules.{judged}
-use Rattle.books.specs.Faults.{otherwise}
+use Rattle.books.specs.Faults.{otherwise, mark_fault}
 
 -- a refusal by the first rules is the refusal
 pub refused_first : {X Y : Type 0} (o p : Option Refusal) (x : X) (y : Y) (e : Refusal) → Err e ≡ judged o x → Err e ≡ judged (otherwise o p) y
@@ -68,3 +70,21 @@ broken false q e x h = absurd (let z : ◌≡◌ {A = ℕ} 0 1 = cc in omega ari
 pub kept : {X : Type 0} (t : Bool) (q : Refusal) (x z : X) → Ok z ≡ judged (refusal ((t, q) ∷ [])) x → (t ≡ false) × (z ≡ x)
 kept false q x z h = (refl, cc)
 kept true q x z h = absurd (let y : ◌≡◌ {A = ℕ} 0 1 = cc in omega arith)
+
+-- a mark or a version that is refused after a rule that is kept, whatever rules follow, and neither refused
+by_two : {X Y : Type 0} (t u v : Bool) (q : Refusal) (more : List Rule) (x : X) (y : Y) (e : Refusal) → t ≡ false → Err e ≡ judged (refusal ((u, Mark) ∷ (v, Version) ∷ [])) x → Err e ≡ judged (refusal ((t, q) ∷ (u, Mark) ∷ (v, Version) ∷ more)) y
+by_two true u v q more x y e k h = absurd (let z : ◌≡◌ {A = ℕ} 0 1 = cc in omega arith)
+by_two false true v q more x y e k h = cc
+by_two false false true q more x y e k h = cc
+by_two false false false q more x y e k h = absurd (let z : ◌≡◌ {A = ℕ} 0 1 = cc in omega arith)
+
+pub unmarked : {X Y : Type 0} (t : Bool) (q : Refusal) (m bs : List ℕ) (more : List Rule) (x : X) (y : Y) (e : Refusal) → t ≡ false → Err e ≡ judged (mark_fault m bs) x → Err e ≡ judged (refusal ((t, q) ∷ (not (bytes_eq (take 3 bs) m), Mark) ∷ (not (u16_at bs 3 == 1), Version) ∷ more)) y
+unmarked t q m bs more x y e k h = by_two t (not (bytes_eq (take 3 bs) m)) (not (u16_at bs 3 == 1)) q more x y e k h
+
+kept_two : {X : Type 0} (t u : Bool) (x z : X) → Ok z ≡ judged (refusal ((t, Mark) ∷ (u, Version) ∷ [])) x → (t ≡ false) × (u ≡ false)
+kept_two false false x z h = (refl, refl)
+kept_two false true x z h = absurd (let y : ◌≡◌ {A = ℕ} 0 1 = cc in omega arith)
+kept_two true u x z h = absurd (let y : ◌≡◌ {A = ℕ} 0 1 = cc in omega arith)
+
+pub marked : {X : Type 0} (m bs : List ℕ) (x z : X) → Ok z ≡ judged (mark_fault m bs) x → (not (bytes_eq (take 3 bs) m) ≡ false) × (not (u16_at bs 3 == 1) ≡ false)
+marked m bs x z h = kept_two (not (bytes_eq (take 3 bs) m)) (not (u16_at bs 3 == 1)) x z h

@@ -6,6 +6,7 @@ ghost use Rattle.books.specs.ChainLayout.{header_fault, header_of, selection_fau
 ghost use Rattle.carriers.specs.Rules.{judged};
 
 use crate::bounds::Bounds;
+use crate::marks::check_mark;
 use crate::numbers::{byte_at, u16_at, u32_at};
 use carriers::Refusal;
 use weights::{Colours, Pair, Sum, Width};
@@ -27,12 +28,7 @@ impl Header {
         if bytes.len() < 27 || bytes.len() > 65536 {
             return Err(Refusal::Length);
         }
-        if !bytes.starts_with(b"CHN") {
-            return Err(Refusal::Mark);
-        }
-        if u16_at(bytes, 3) != 1 {
-            return Err(Refusal::Version);
-        }
+        check_mark(bytes, b"CHN")?;
         let bounds = selected_bounds(bytes)?;
         let carriers = byte_at(bytes, 6);
         if carriers == 0 || carriers > 16 {

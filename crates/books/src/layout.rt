@@ -7,6 +7,7 @@ ghost use Rattle.books.specs.ChainLayout.{lone_book};
 ghost use Rattle.carriers.specs.Rules.{judged};
 ghost use Rattle.books.specs.Sides.{leads_to, links_on};
 
+use crate::marks::check_mark;
 use crate::numbers::{rest_at, u16_at};
 use crate::records::{Link, record_is_sound};
 use carriers::{MOST_NODES, MOST_PLACES, Refusal, Side};
@@ -19,11 +20,18 @@ pub struct Book<'a> {
     ghost whole: { length bytes.now ≡ book_size bytes.now },
 }
 
-// The size of the book at the front of `bytes`, by its counts.
+// Where the link record at `place` begins, by the count of the entries.
+fn link_start(bytes: &[u8], place: u16) -> usize
+    ensures { result ≡ link_start bytes.now place }
+{
+    11 + 2 * u16_at(bytes, 9) as usize + 24 * place as usize
+}
+
+// The size of the book at the front of `bytes`, by its counts: one link more would begin there.
 fn counted_size(bytes: &[u8]) -> usize
     ensures { result ≡ book_size bytes.now }
 {
-    11 + 2 * u16_at(bytes, 9) as usize + 24 * u16_at(bytes, 7) as usize
+    link_start(bytes, u16_at(bytes, 7))
 }
 
 // The same size, where the bytes have the shape of a book.
@@ -34,12 +42,7 @@ fn checked_size(bytes: &[u8]) -> Result<usize, Refusal>
     if bytes.len() < 11 {
         return Err(Refusal::Length);
     }
-    if !bytes.starts_with(b"LNK") {
-        return Err(Refusal::Mark);
-    }
-    if u16_at(bytes, 3) != 1 {
-        return Err(Refusal::Version);
-    }
+    check_mark(bytes, b"LNK")?;
     let nodes = u16_at(bytes, 5);
     let links = u16_at(bytes, 7);
     if nodes == 0 || nodes as usize > MOST_NODES || links as usize > MOST_PLACES {
@@ -90,10 +93,7 @@ fn entry_is_sound(bytes: &[u8], i: u16) -> bool
 fn record_at(bytes: &[u8], place: u16) -> &[u8]
     ensures { result.now ≡ drop (link_start bytes.now place) bytes.now }
 {
-    rest_at(
-        bytes,
-        11 + 2 * u16_at(bytes, 9) as usize + 24 * place as usize,
-    )
+    rest_at(bytes, link_start(bytes, place))
 }
 
 // Whether every link record keeps the rules of its fields.

@@ -8,6 +8,7 @@ mod chain_file;
 mod header;
 mod kinds;
 mod layout;
+mod marks;
 mod numbers;
 mod records;
 mod walk;

@@ -7,7 +7,8 @@ use crossing::{Scope, cross};
 use std::io;
 use stepping::{Label, Run};
 
-// Crosses one carrier and prints the labels that it settles, none where it is refused.
+// Crosses one carrier and prints the labels that it settles, none where it is refused. The map and the memory are lent
+// for this one crossing.
 pub(crate) fn crossed<M: Map<Cost>>(
     rt: &impl Print,
     what: &str,

@@ -7,7 +7,7 @@ use input::chain_file;
 use std::io;
 
 fn main(rt: HostRuntime) -> io::Result<()> {
-    let bytes = chain_file(&rt)?;
+    let bytes = chain_file(rt.alloc(), rt.reader())?;
     let account = Account::of(bytes.as_slice());
     print!(rt; "{account}")
 }

@@ -7,7 +7,7 @@ use listing::listing;
 use std::io;
 
 fn main(rt: HostRuntime) -> io::Result<()> {
-    let bytes = chain_file(&rt)?;
+    let bytes = chain_file(rt.alloc(), rt.reader())?;
     let text = listing(rt.alloc(), bytes.as_slice())?;
     print!(rt; "{text}")
 }

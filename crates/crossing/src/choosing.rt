@@ -6,9 +6,8 @@ ghost use Rattle.stepping.specs.Labels.{meant, meanings};
 ghost use Rattle.stepping.specs.Crossing.{covers, lower, precedes};
 ghost use Rattle.crossing.specs.Offers.{offer_meant, counted, chosen, meets, offered, offers, offers_of};
 
-use crate::keyed::Keyed;
 use carriers::Side;
-use stepping::Label;
+use stepping::{Keyed, Label};
 use weights::Kind;
 
 // Whether some label of the run at the node is as good as the weight.

@@ -4,7 +4,6 @@
 
 mod choosing;
 mod crossings;
-mod keyed;
 mod scopes;
 mod settling;
 mod stepping_rule;

@@ -3,8 +3,7 @@
 ghost use Rattle.std.specs.Prelude.{◌≡◌, length};
 ghost use Rattle.crossing.specs.Scopes.{start_of, before_labels};
 
-use crate::keyed::Keyed;
-use stepping::{Label, Run};
+use stepping::{Keyed, Label, Run};
 
 // What the run starts from: in the first crossing of a chain the destination, and later the run before. It is no
 // Option, since each of the two has a value.

@@ -10,13 +10,13 @@ ghost use Rattle.carriers.specs.declared.sizes.TheConstants.{MOST_PLACES};
 ghost use Rattle.crossing.specs.Scopes.{marks_of, start_of, view};
 
 use crate::choosing::{Choice, Offer};
-use crate::keyed::Keyed;
 use crate::scopes::{Marks, Scope};
 use carriers::Map;
-use stepping::Label;
+use stepping::{Keyed, Label};
 use weights::Kind;
 
-// What a crossing looks at: what it is told, the map, and the labels of the run before.
+// What a crossing looks at: what it is told, the map, and the labels of the run before. Clauses write out what it sees
+// of them, since a definition for that would have to take all members of both bounds.
 #[derive(Drop)]
 pub(crate) struct Crossing<'a, W: Kind, M: Map<W>> {
     pub(crate) scope: Scope<W>,

@@ -1,4 +1,4 @@
-// Standard input, as far as a chain file may reach.
+// The bytes that a reader gives, as far as a chain file may reach.
 
 #![tactic(auto)]
 
@@ -12,7 +12,7 @@ use std::io::Read;
 const ENOUGH: u64 = 65_537;
 
 // The first bytes that the reader gives, as many as are enough.
-fn front<R: Read + Drop>(heap: Global, reader: R) -> io::Result<Vec<u8>>
+pub fn chain_file<R: Read + Drop>(heap: Global, reader: R) -> io::Result<Vec<u8>>
     ensures most { IfOk result (λ v. length v.items ≤ 65537) }
     ensures bytes { IfOk result (λ v. IfSome (R.remaining reader) (λ xs. v.items ≡ take 65537 xs)) }
 {
@@ -21,13 +21,6 @@ fn front<R: Read + Drop>(heap: Global, reader: R) -> io::Result<Vec<u8>>
     // No more were read, but the contract of `read_to_end` says so only of a reader whose bytes are known.
     bytes.truncate(ENOUGH as usize);
     Ok(bytes)
-}
-
-// The first bytes of standard input, as many as are enough.
-pub fn chain_file<R: Input + AllocGlobal>(rt: &R) -> io::Result<Vec<u8>>
-    ensures { IfOk result (λ v. length v.items ≤ 65537) }
-{
-    front(rt.alloc(), rt.reader())
 }
 
 #[cfg(test)]

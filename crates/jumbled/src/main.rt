@@ -16,7 +16,7 @@ use maps::Books;
 use std::io;
 
 fn main(rt: HostRuntime) -> io::Result<()> {
-    let bytes = chain_file(&rt)?;
+    let bytes = chain_file(rt.alloc(), rt.reader())?;
     match Chain::read(bytes.as_slice()) {
         Ok(chain) => jumbled(&rt, &chain),
         Err(refusal) => println!(rt; "refused {refusal}"),

@@ -7,7 +7,7 @@ use carriers::{Fence, Line, Map, Side};
 use costs::{Amounts, Cost};
 use std::fmt;
 
-// The two books of the sample chain.
+// The two books of the sample chain, as they lie in its file; those of `cases` lie in its text.
 #[derive(Clone, Copy)]
 pub(crate) struct Books<'a> {
     pub(crate) first: Book<'a>,

@@ -3,5 +3,6 @@ pub mod Found
 pub mod Items
 pub mod Pairs
 pub mod Texts
+pub mod Unlisted
 pub mod Listing
 pub mod Truth

@@ -38,9 +38,7 @@ impl<W: BookKind> Journey<'_, W> {
         ensures { did W.Kind.means request.new.stage memory.new result ≡ along W.Kind.algebra (behind W.Kind.algebra W.Kind.means W.BookKind.reads self.now.bounds) (contents_of self.now.chain.now).source (contents_of self.now.chain.now).books (stage_of W.Kind.means request.old.stage) (meanings W.Kind.means memory.old) }
     {
         let mut books = self.chain.books();
-        let Some(mut book) = books.next() else {
-            return Err(Refusal::Chain);
-        };
+        let mut book = books.next().ok_or(Refusal::Chain)?;
         for next in books {
             let map = Fence {
                 map: book,

@@ -2,12 +2,11 @@
 
 #![tactic(auto)]
 
-ghost use Rattle.std.specs.Prelude.{◌≡◌, IfOk, Err, string_bytes};
+ghost use Rattle.std.specs.Prelude.{◌≡◌, IfOk, string_bytes};
 ghost use Rattle.books.specs.Told.{contents_of};
-ghost use Rattle.carriers.specs.declared.refusals.Refusal.{Refusal as TheRefusal};
-ghost use Rattle.listing.specs.declared.unlisted.Unlisted.TheVariants.{Refused};
 ghost use Rattle.listing.specs.Texts.{refused_text};
 ghost use Rattle.listing.specs.Listing.{listing_text, selected_text};
+ghost use Rattle.listing.specs.Unlisted.{IfRefused};
 
 use books::{Bounds, Chain};
 use journey::Journey;
@@ -27,17 +26,13 @@ pub use truth::{listing_stands, lists_are_true};
 pub fn listing(heap: Global, bytes: &[u8]) -> Result<String, AllocError>
     ensures { IfOk result (λ s. string_bytes s ≡ listing_text bytes.now) }
 {
-    match list(heap, bytes) {
-        Ok(text) => Ok(text),
-        Err(Unlisted::Refused(refusal)) => format!(in heap; "refused {}\n", refusal.number()),
-        Err(Unlisted::Memory(error)) => Err(error),
-    }
+    list(heap, bytes).or_else(|unlisted| unlisted.line(heap))
 }
 
 // The text of the list, where nothing is refused.
 fn list(heap: Global, bytes: &[u8]) -> Result<String, Unlisted>
     ensures text { IfOk result (λ s. string_bytes s ≡ listing_text bytes.now) }
-    ensures refused { (r : TheRefusal) → result ≡ Err (Refused r) → refused_text r ≡ listing_text bytes.now }
+    ensures refused { IfRefused result (λ r. refused_text r ≡ listing_text bytes.now) }
 {
     let chain = Chain::read(bytes)?;
     selected_routes(heap, &chain)
@@ -46,7 +41,7 @@ fn list(heap: Global, bytes: &[u8]) -> Result<String, Unlisted>
 // The routes of the chain, in the weights that its bounds are given in.
 fn selected_routes(heap: Global, chain: &Chain) -> Result<String, Unlisted>
     ensures text { IfOk result (λ s. string_bytes s ≡ selected_text (contents_of chain.now) (contents_of chain.now).bounds) }
-    ensures refused { (r : TheRefusal) → result ≡ Err (Refused r) → refused_text r ≡ selected_text (contents_of chain.now) (contents_of chain.now).bounds }
+    ensures refused { IfRefused result (λ r. refused_text r ≡ selected_text (contents_of chain.now) (contents_of chain.now).bounds) }
 {
     match chain.bounds() {
         Bounds::Delay(bounds) => Journey { bounds, chain }.routes_text(heap),

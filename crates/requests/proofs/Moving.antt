@@ -1,11 +1,13 @@
 -- What a call makes of its crossing.
-use Rattle.std.proofs.Common.{◌≡◌, ℕ, zero, suc, ◌+◌, ◌≤◌, eqb, ltb, List, ◌++◌, length, take, drop, Some, None, Option, Ok, Err, Result, refl, sym, ap, ◌∙◌, arith}
+use Rattle.std.proofs.Common.{◌≡◌, ◌==◌, ℕ, Bool, true, false, cond, zero, suc, ◌+◌, ◌≤◌, eqb, ltb, List, ◌++◌, length, take, drop, Some, None, Option, Ok, Err, Result, refl, sym, ap, ◌∙◌, arith}
 use Rattle.std.specs.Bool.{then_some}
 use Rattle.std.proofs.lemmas.List.{length-map, length-take-le, take_at, drop_at}
 use Rattle.std.proofs.lemmas.Bool.{lt-ltb}
 use Rattle.weights.specs.Algebra.{Algebra}
 use Rattle.carriers.specs.declared.refusals.Refusal.{Refusal}
+use Rattle.carriers.specs.declared.refusals.Refusal.TheVariants as refusals
 use Rattle.carriers.specs.Carrier.{Carrier}
+use Rattle.carriers.specs.Rules.{judged}
 use Rattle.stepping.specs.declared.Label.{Label}
 use Rattle.stepping.specs.Labels.{Labels, meant, meanings}
 use Rattle.stepping.specs.Crossing.{Outcome, done, full}
@@ -21,7 +23,7 @@ use Rattle.requests.specs.declared.stages.Progress as requests
 use Rattle.requests.specs.declared.stages.Stage.{Stage}
 use Rattle.requests.specs.declared.stages.Stage.TheVariants.{Idle, Open, Finished}
 use Rattle.requests.specs.declared.stages.Call.TheVariants.{Cross, Finish}
-use Rattle.requests.specs.Kept.{progress_of, stage_of, progress_for, did}
+use Rattle.requests.specs.Kept.{progress_of, stage_of, begun, did}
 use Rattle.requests.proofs.Allowed.{Allowed}
 
 -- the run that was written is read again
@@ -38,6 +40,10 @@ pub accepted : (o : Option Refusal) → Allowed o → None ≡ o
 accepted None h = refl
 accepted (Some r) h = absurd (cc h)
 
+broken : (o : Option Refusal) (e : Refusal) → ◌≡◌ {A = Result (Unit {0}) Refusal} (Err e) (judged o tt) → Some e ≡ o
+broken None e h = absurd (cc h)
+broken (Some r) e h = cc h
+
 module _ {W : Type 0} (A : Algebra) (f : W → A.Weight) (p : requests.Progress W) (m : List (Label W)) where
   abbrev P : Progress A.Weight
   P = progress_of f p
@@ -45,29 +51,49 @@ module _ {W : Type 0} (A : Algebra) (f : W → A.Weight) (p : requests.Progress 
   abbrev M : Labels A
   M = meanings f m
 
+  same : (q : requests.Progress W) (b : Bool) → Ok p ≡ cond b (Ok q) (Err refusals.Memory) → q ≡ p
+  same q true e = cc e
+  same q false e = absurd (cc e)
+
   -- a cross and a finish are for an open request
-  open_to_cross : (s : Stage W) → Ok p ≡ progress_for s Cross → s ≡ Open p
+  open_to_cross : (s : Stage W) → Ok p ≡ begun s Cross m → s ≡ Open p
   open_to_cross Idle e = absurd (cc e)
-  open_to_cross (Open q) e = cc e
+  open_to_cross (Open q) e = ap Open (same q (length m == q.runs.memory) e)
   open_to_cross (Finished q) e = absurd (cc e)
 
-  open_to_finish : (s : Stage W) → Ok p ≡ progress_for s Finish → s ≡ Open p
+  open_to_finish : (s : Stage W) → Ok p ≡ begun s Finish m → s ≡ Open p
   open_to_finish Idle e = absurd (cc e)
-  open_to_finish (Open q) e = cc e
+  open_to_finish (Open q) e = ap Open (same q (length m == q.runs.memory) e)
   open_to_finish (Finished q) e = absurd (cc e)
 
   -- one that no rule refuses settles a run
-  pub crosses : (C : Carrier A.Weight) (s : Stage W) → Ok p ≡ progress_for s Cross → Allowed (refusal (cross_rules P C M))
+  pub crosses : (C : Carrier A.Weight) (s : Stage W) → Ok p ≡ begun s Cross m → Allowed (refusal (cross_rules P C M))
       → crossed A P M opened length (outcome A P C C.entry M) ≡ on_cross A (stage_of f s) C M
   crosses C s e j =
       ap (λ o. unless o (refused (opened P) M) (crossed A P M opened length (outcome A P C C.entry M))) (accepted _ j)
       ∙ ap (λ z. on_cross A (stage_of f z) C M) (sym (open_to_cross s e))
 
-  pub finishes : (C : Carrier A.Weight) (v : ℕ) (s : Stage W) → Ok p ≡ progress_for s Finish → Allowed (refusal (finish_rules P C v M))
+  pub finishes : (C : Carrier A.Weight) (v : ℕ) (s : Stage W) → Ok p ≡ begun s Finish m → Allowed (refusal (finish_rules P C v M))
       → crossed A P M finished (ending v (used P.runs)) (outcome A P C (λ u. eqb u v) M) ≡ on_finish A (stage_of f s) C v M
   finishes C v s e j =
       ap (λ o. unless o (refused (opened P) M) (crossed A P M finished (ending v (used P.runs)) (outcome A P C (λ u. eqb u v) M))) (accepted _ j)
       ∙ ap (λ z. on_finish A (stage_of f z) C v M) (sym (open_to_finish s e))
+
+  -- one that a rule refuses leaves all as it was
+  module _ (e : Refusal) (s : Stage W) (C : Carrier A.Weight) where
+    pub cross_refused : (r : Result ℕ Refusal) → r ≡ Err e → Ok p ≡ begun s Cross m → ◌≡◌ {A = Result (Unit {0}) Refusal} (Err e) (judged (refusal (cross_rules P C M)) tt)
+        → did f s m r ≡ on_cross A (stage_of f s) C M
+    cross_refused r is k j =
+        cc (ap (λ z. did f z m r) (open_to_cross s k), is)
+        ∙ ap (λ o. unless o (refused (opened P) M) (crossed A P M opened length (outcome A P C C.entry M))) (broken _ e j)
+        ∙ ap (λ z. on_cross A (stage_of f z) C M) (sym (open_to_cross s k))
+
+    pub finish_refused : (v : ℕ) (r : Result Ending Refusal) → r ≡ Err e → Ok p ≡ begun s Finish m → ◌≡◌ {A = Result (Unit {0}) Refusal} (Err e) (judged (refusal (finish_rules P C v M)) tt)
+        → did f s m r ≡ on_finish A (stage_of f s) C v M
+    finish_refused v r is k j =
+        cc (ap (λ z. did f z m r) (open_to_finish s k), is)
+        ∙ ap (λ o. unless o (refused (opened P) M) (crossed A P M finished (ending v (used P.runs)) (outcome A P C (λ u. eqb u v) M))) (broken _ e j)
+        ∙ ap (λ z. on_finish A (stage_of f z) C v M) (sym (open_to_finish s k))
 
   -- where memory is full, the call leaves and answers the same whatever it would have made of the run
   full_same : {X : Type 0} (stage : Progress A.Weight → stages.Stage A.Weight) (answer : Labels A → X) (o : Outcome A.Weight) (Q : Progress A.Weight) (L : Labels A) (e : Refusal)
@@ -77,13 +103,13 @@ module _ {W : Type 0} (A : Algebra) (f : W → A.Weight) (p : requests.Progress 
   full_same stage answer full Q L e h = cc (ap (λ x. x.labels) h, ap (λ x. x.answer) h)
 
   module _ (q : requests.Progress W) (l : List (Label W)) (e : Refusal) (s : Stage W) where
-    pub cross_stops : (r : Result ℕ Refusal) (C : Carrier A.Weight) → r ≡ Err e → Ok p ≡ progress_for s Cross → Allowed (refusal (cross_rules P C M))
+    pub cross_stops : (r : Result ℕ Refusal) (C : Carrier A.Weight) → r ≡ Err e → Ok p ≡ begun s Cross m → Allowed (refusal (cross_rules P C M))
         → did f (Open q) l (Err e) ≡ crossed A P M opened length (outcome A P C C.entry M)
         → did f s l r ≡ on_cross A (stage_of f s) C M
     cross_stops r C is k j h =
         cc (ap (λ z. did f z l r) (open_to_cross s k), full_same opened length _ (progress_of f q) (meanings f l) e h, crosses C s k j)
 
-    pub finish_stops : (r : Result Ending Refusal) (C : Carrier A.Weight) (v : ℕ) → r ≡ Err e → Ok p ≡ progress_for s Finish → Allowed (refusal (finish_rules P C v M))
+    pub finish_stops : (r : Result Ending Refusal) (C : Carrier A.Weight) (v : ℕ) → r ≡ Err e → Ok p ≡ begun s Finish m → Allowed (refusal (finish_rules P C v M))
         → did f (Open q) l (Err e) ≡ crossed A P M opened length (outcome A P C (λ u. eqb u v) M)
         → did f s l r ≡ on_finish A (stage_of f s) C v M
     finish_stops r C v is k j h =
@@ -108,7 +134,7 @@ module _ {W : Type 0} (A : Algebra) (f : W → A.Weight) (p : requests.Progress 
         ∙ ap (λ x. record { stage = finished (with_run P (length run)); labels = written u M run; answer = Ok (record { routes = routes_of (length (items v u x)); settled = length run }) }) (run_read u M run w)
 
     pub finish_ends : (C : Carrier A.Weight) (s : Stage W) (q : requests.Progress W) (l : List (Label W)) (n k : ℕ) (r : Option ℕ)
-        → Ok p ≡ progress_for s Finish → Allowed (refusal (finish_rules P C v M)) → length m ≡ p.runs.memory
+        → Ok p ≡ begun s Finish m → Allowed (refusal (finish_rules P C v M)) → length m ≡ p.runs.memory
         → did f (Open q) l (Ok n) ≡ crossed A P M opened length (outcome A P C (λ u. eqb u v) M)
         → k ≡ length (listed (progress_of f q) v (meanings f l)) → r ≡ then_some (ltb 0 k) k
         → did f (Finished q) l (Ok (record { routes = r; settled = n })) ≡ on_finish A (stage_of f s) C v M

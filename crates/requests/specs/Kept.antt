@@ -4,8 +4,9 @@
 --   sound s           what the type says of a stage: at most 15 runs while open
 --   in_use s          how many labels of the memory are in use
 --   progress_for s c  what the call c works on, at a stage that it is for
+--   begun s c m       the same, where the memory m has as many labels as when the request was opened
 --   did f s m r       what a call left and answered: the stage s, the memory m and the answer r, by meaning
-use Rattle.std.specs.Prelude.{ℕ, Bool, true, List, length, Ok, Err, Result, nat_le}
+use Rattle.std.specs.Prelude.{ℕ, Bool, true, cond, ◌==◌, List, length, Ok, Err, Result, nat_le}
 use Rattle.carriers.specs.declared.refusals.Refusal.{Refusal}
 use Rattle.carriers.specs.declared.refusals.Refusal.TheVariants as refusals
 use Rattle.stepping.specs.declared.Label.{Label}
@@ -45,6 +46,13 @@ progress_for (Finished p) Cross = Err refusals.Stage
 progress_for (Finished p) Finish = Err refusals.Stage
 progress_for (Finished p) Withdraw = Ok p
 progress_for (Finished p) Ask = Ok p
+
+abbrev within : {W : Type 0} → List (Label W) → Result (Progress W) Refusal → Result (Progress W) Refusal
+within m (Ok p) = cond (length m == p.runs.memory) (Ok p) (Err refusals.Memory)
+within m (Err e) = Err e
+
+abbrev pub begun : {W : Type 0} → Stage W → Call → List (Label W) → Result (Progress W) Refusal
+begun s c m = within m (progress_for s c)
 
 abbrev pub did : {W V X : Type 0} → (W → V) → Stage W → List (Label W) → Result X Refusal → stages.After V X
 did f s m r = record { stage = stage_of f s; labels = meanings f m; answer = r }

@@ -68,8 +68,8 @@ impl<W: Kind> Request<W> {
         ensures used { take (in_use self.old.stage) memory.new ≡ take (in_use self.old.stage) memory.old }
         ensures rest { IfOk result (λ n. drop (in_use self.old.stage + n) memory.new ≡ drop (in_use self.old.stage + n) memory.old) }
     {
-        let mut progress = self.stage.progress_for(Call::Cross)?;
-        progress.check_cross(map, memory)?;
+        let mut progress = self.stage.begun(Call::Cross, memory)?;
+        progress.check_cross(map)?;
         let settled = progress.cross(map, Marks::Entries, memory)?;
         self.stage = Stage::Open(progress);
         Ok(settled)
@@ -89,8 +89,8 @@ impl<W: Kind> Request<W> {
         ensures used { take (in_use self.old.stage) memory.new ≡ take (in_use self.old.stage) memory.old }
         ensures rest { IfOk result (λ e. drop (in_use self.old.stage + e.settled) memory.new ≡ drop (in_use self.old.stage + e.settled) memory.old) }
     {
-        let mut progress = self.stage.progress_for(Call::Finish)?;
-        progress.check_finish(map, source, memory)?;
+        let mut progress = self.stage.begun(Call::Finish, memory)?;
+        progress.check_finish(map, source)?;
         let settled = progress.cross(map, Marks::Only(source), memory)?;
         let listed = progress.latest_labels(memory).count(source);
         self.stage = Stage::Finished(progress);
@@ -105,8 +105,7 @@ impl<W: Kind> Request<W> {
         ensures call { Called W.Kind.algebra W.Kind.means to_withdraw self.old.stage memory.old result self.new.stage memory.new }
         ensures same { is_err result ≡ true → (self.new.stage ≡ self.old.stage) × (memory.new ≡ memory.old) }
     {
-        let progress = self.stage.progress_for(Call::Withdraw)?;
-        progress.check_memory(memory)?;
+        let progress = self.stage.begun(Call::Withdraw, memory)?;
         blank_from(memory, 0);
         self.stage = Stage::Idle;
         Ok(())
@@ -116,8 +115,7 @@ impl<W: Kind> Request<W> {
     pub fn count(&self, node: u16, memory: &[Label<W>]) -> Result<usize, Refusal>
         ensures { result ≡ on_count (stage_of W.Kind.means self.now.stage) node (meanings W.Kind.means memory.now) }
     {
-        let progress = self.stage.progress_for(Call::Ask)?;
-        progress.check_memory(memory)?;
+        let progress = self.stage.begun(Call::Ask, memory)?;
         Ok(progress.latest_labels(memory).count(node))
     }
 
@@ -125,8 +123,7 @@ impl<W: Kind> Request<W> {
     pub fn item(&self, node: u16, k: usize, memory: &[Label<W>]) -> Result<Item<W>, Refusal>
         ensures { answered W.Kind.means result ≡ on_item (stage_of W.Kind.means self.now.stage) node k (meanings W.Kind.means memory.now) }
     {
-        let progress = self.stage.progress_for(Call::Ask)?;
-        progress.check_memory(memory)?;
+        let progress = self.stage.begun(Call::Ask, memory)?;
         progress
             .latest_labels(memory)
             .item(node, k)
@@ -143,8 +140,7 @@ impl<W: Kind> Request<W> {
     ) -> Result<usize, Refusal>
         ensures { written hops.new result ≡ on_expand (stage_of W.Kind.means self.now.stage) key (meanings W.Kind.means memory.now) hops.old }
     {
-        let progress = self.stage.progress_for(Call::Ask)?;
-        progress.check_memory(memory)?;
+        let progress = self.stage.begun(Call::Ask, memory)?;
         if key >= progress.runs.used() {
             return Err(Refusal::Key);
         }

@@ -33,7 +33,8 @@ impl Runs {
         }
     }
 
-    // Writes the hops of the key, where the slice has as many places.
+    // Writes the hops of the key, where the slice has as many places. It goes the way of `hop_count` again, since a
+    // refusal is found before the first hop is written and no hop is kept in between.
     pub(crate) fn write_hops<W: Kind>(&self, key: usize, memory: &[Label<W>], hops: &mut [Hop])
         requires { option_map length (follow (runs_of self.now) (meanings W.Kind.means memory.now) (suc key) key) ≡ Some (length hops.old) }
         ensures { follow (runs_of self.now) (meanings W.Kind.means memory.now) (suc key) key ≡ Some hops.new }

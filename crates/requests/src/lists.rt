@@ -4,16 +4,12 @@ ghost use Rattle.std.specs.Prelude.{◌≡◌, ◌==◌, ◌&&◌, ◌+◌, ◌^
 
 use crate::stages::Progress;
 use histories::Item;
-use stepping::Label;
+use stepping::{Keyed, Label};
 use weights::Kind;
 
-// The labels of a run, and the key of the first of them.
+// The labels of a run, which are asked for those that are listed at a node.
 #[derive(Drop)]
-pub(crate) struct RunLabels<'a, W> {
-    labels: &'a [Label<W>],
-    first_key: usize,
-    ghost numbered: { first_key + length labels.now < 2 ^ 64 },
-}
+pub(crate) struct RunLabels<'a, W>(Keyed<'a, W>);
 
 // Whether the label is listed at the node.
 fn is_listed<W: Kind>(label: &Label<W>, node: u16) -> bool
@@ -31,9 +27,10 @@ impl<'a, W: Kind> RunLabels<'a, W> {
 
     // How many of the labels are listed at the node.
     pub(crate) fn count(&self, node: u16) -> usize
-        ensures { result ≡ length (items node self.now.first_key (meanings W.Kind.means self.now.labels.now)) }
+        ensures { result ≡ length (items node self.now.0.first_key (meanings W.Kind.means self.now.0.labels.now)) }
     {
-        self.labels
+        self.0
+            .labels
             .iter()
             .filter(|label| is_listed(label, node))
             .count()
@@ -41,11 +38,11 @@ impl<'a, W: Kind> RunLabels<'a, W> {
 
     // The k-th of the labels that are listed at the node.
     pub(crate) fn item(&self, node: u16, k: usize) -> Option<Item<W>>
-        ensures { option_map (item_meant W.Kind.means) result ≡ slice_get (items node self.now.first_key (meanings W.Kind.means self.now.labels.now)) k }
+        ensures { option_map (item_meant W.Kind.means) result ≡ slice_get (items node self.now.0.first_key (meanings W.Kind.means self.now.0.labels.now)) k }
     {
-        let end = self.first_key + self.labels.len();
-        (self.first_key..end)
-            .zip(self.labels)
+        let end = self.0.first_key + self.0.labels.len();
+        (self.0.first_key..end)
+            .zip(self.0.labels)
             .filter(|(_, label)| is_listed(label, node))
             .nth(k)
             .map(|(key, label)| Item {
@@ -64,12 +61,12 @@ impl<W: Kind> Progress<W> {
     // The labels of the latest run.
     pub(crate) fn latest_labels<'a>(&self, memory: &'a [Label<W>]) -> RunLabels<'a, W>
         requires { length memory.now ≡ self.now.runs.memory }
-        ensures { (node : ℕ) → items node result.first_key (meanings W.Kind.means result.labels.now) ≡ listed (progress_of W.Kind.means self.now) node (meanings W.Kind.means memory.now) }
+        ensures { (node : ℕ) → items node result.0.first_key (meanings W.Kind.means result.0.labels.now) ≡ listed (progress_of W.Kind.means self.now) node (meanings W.Kind.means memory.now) }
     {
         let run = self.runs.latest_or_empty();
-        RunLabels {
+        RunLabels(Keyed {
             labels: &memory[run.start..run.start + run.length],
             first_key: run.start,
-        }
+        })
     }
 }

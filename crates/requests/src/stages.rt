@@ -1,10 +1,7 @@
 // What a request keeps: its stage, and the progress of one that is open or finished.
 
-ghost use Rattle.std.specs.Prelude.{◌≡◌, [], ◌∷◌, length, IfOk};
-ghost use Rattle.stepping.specs.Labels.{meanings};
-ghost use Rattle.histories.specs.Rules.{refusal, memory_rule};
-ghost use Rattle.requests.specs.Kept.{progress_of, progress_for};
-ghost use Rattle.carriers.specs.Rules.{judged};
+ghost use Rattle.std.specs.Prelude.{◌≡◌, length, IfOk};
+ghost use Rattle.requests.specs.Kept.{progress_for, begun};
 ghost use Rattle.requests.specs.Scoped.{scope_of};
 
 use crate::runs::Runs;
@@ -36,17 +33,6 @@ impl<W: Kind> Progress<W> {
             marks,
         }
     }
-
-    // Refused where the memory has not as many labels as when the request was opened.
-    pub(crate) fn check_memory(&self, memory: &[Label<W>]) -> Result<(), Refusal>
-        ensures judged { result ≡ judged (refusal (memory_rule (progress_of W.Kind.means self.now) (meanings W.Kind.means memory.now) ∷ [])) tt }
-        ensures length { IfOk result (λ _. length memory.now ≡ self.now.runs.memory) }
-    {
-        if memory.len() != self.runs.memory() {
-            return Err(Refusal::Memory);
-        }
-        Ok(())
-    }
 }
 
 // A request is idle, open or finished.
@@ -57,7 +43,8 @@ pub enum Stage<W> {
     Finished(Progress<W>),
 }
 
-// The calls that ask for a request's progress.
+// The calls that ask for a request's progress, with no stage in their types: a call and a stage are matched together in
+// one place, `progress_for`.
 #[derive(Clone, Copy)]
 pub enum Call {
     Cross,
@@ -76,5 +63,17 @@ impl<W: Kind> Stage<W> {
             (Stage::Finished(progress), Call::Withdraw | Call::Ask) => Ok(progress),
             _ => Err(Refusal::Stage),
         }
+    }
+
+    // The progress, where the call is for this stage and the memory has as many labels as when the request was opened.
+    pub(crate) fn begun(&self, call: Call, memory: &[Label<W>]) -> Result<Progress<W>, Refusal>
+        ensures begun { result ≡ begun self.now call memory.now }
+        ensures memory { IfOk result (λ p. length memory.now ≡ p.runs.memory) }
+    {
+        let progress = self.progress_for(call)?;
+        if memory.len() != progress.runs.memory() {
+            return Err(Refusal::Memory);
+        }
+        Ok(progress)
     }
 }

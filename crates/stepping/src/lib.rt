@@ -11,12 +11,17 @@ ghost use Rattle.stepping.specs.Room.{Room, Ends};
 
 use weights::Kind;
 
+mod keyed;
+
+pub use keyed::Keyed;
+
 // The link of the destination's own label. A number and no Option, since a label has the fields that the docs name.
 pub const NO_LINK: u16 = 65535;
 
 // A label: a way from `node` with this weight is known. `link` is the place of its first link, and `next` the
 // key of the label that the rest of it starts from; the destination's own label has link 65,535 and next 0.
-// Onward links lead onto marked labels only, and only marked labels are listed.
+// Onward links lead onto marked labels only, and only marked labels are listed. Labels name one another by key, since
+// their memory is a slice that is lent.
 #[derive(Clone, Copy)]
 pub struct Label<W> {
     pub node: u16,

@@ -5,7 +5,6 @@ use Rattle.listing.proofs.journey.Journey.find_routes.Goals as goal
 pub returns-clause-found : goal.returns-clause-found
 unfolding found_of
 returns-clause-found g c =
-    let k = g.W.Kind in
     IfOk-weaker c.find_in.result _ _
     (λ l q. cc (q, c.as_mut_slice.ensures.value, c.in_ok-memory.ensures))
     c.find_in.ensures.found

@@ -11,8 +11,8 @@ use Rattle.requests.proofs.lists.RunLabels.item.Goals as goal
 pub returns : goal.returns
 returns g c =
     let f = g.W.Kind.means in
-    let labels = c.args.self.now.labels.now in
-    let k = c.args.self.now.first_key in
+    let labels = c.args.self.now.0.labels.now in
+    let k = c.args.self.now.0.first_key in
     let nth = nth_from_yields_List c.nth.result c.nth.new.self c.args.k c.nth.ensures.ran
     (YieldsList-from_filter _ (λ p. is_listed c.args.node p.1) (YieldsList-at c.filter.ensures.source (YieldsList-from_zip (YieldsList-at c.zip.ensures.first (YieldsList-from_range k (k + length labels) (length labels) refl (omega arith))) (YieldsList-from_slice {s = c.zip.result.b} labels (search rules)))) c.filter.ensures.closure (λ x r q k. search (rules, tests))) in
     let made : c.map.result ≡ option_map (λ x. record { weight = x.1.now.weight; key = x.0 }) c.nth.result = search rules in

@@ -7,5 +7,5 @@ use Rattle.requests.proofs.requests_kept.Request.item.Goals as goal
 pub returns : goal.returns
 returns g c =
     ap (answered g.W.Kind.means) c.ok_or.ensures.value
-    ∙ shows g.W.Kind.means c.in_ok-progress.progress c.args.self.now.stage c.args.memory.now c.in_ok-progress.ensures c.in_ok-check_memory.ensures.judged c.args.node c.args.k c.item.result
+    ∙ shows g.W.Kind.means c.in_ok-progress.progress c.args.memory.now c.args.self.now.stage c.in_ok-progress.ensures.begun c.args.node c.args.k c.item.result
     (c.item.ensures ∙ ap (λ xs. slice_get xs c.args.k) (c.latest_labels.ensures c.args.node))

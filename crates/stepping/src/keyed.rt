@@ -2,12 +2,12 @@
 
 ghost use Rattle.std.specs.Prelude.{◌+◌, ◌^◌, ◌<◌, length};
 
-use stepping::Label;
+use crate::Label;
 
 // Labels that stand one after another in the memory, the first of which has the key `first_key`.
 #[derive(Drop)]
-pub(crate) struct Keyed<'a, W> {
-    pub(crate) labels: &'a [Label<W>],
-    pub(crate) first_key: usize,
+pub struct Keyed<'a, W> {
+    pub labels: &'a [Label<W>],
+    pub first_key: usize,
     ghost fits: { first_key + length labels.now < 2 ^ 64 },
 }

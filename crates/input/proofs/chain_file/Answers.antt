@@ -1,7 +1,7 @@
 use Rattle.std.proofs.Common.{◌≡◌, ℕ, List, take, Some, None, IfSome, Option, ap, ◌∙◌, arith}
 use Rattle.std.specs.Option.{option_map}
 use Rattle.std.proofs.lemmas.List.{take-take}
-use Rattle.input.proofs.front.Goals as goal
+use Rattle.input.proofs.chain_file.Goals as goal
 
 -- what is left of the known bytes when no more than n of them were read
 first_known : (n : ℕ) (known : Option (List ℕ)) (read left : List ℕ) → IfSome (option_map (take n) known) (λ xs. read ≡ xs) → left ≡ take n read
