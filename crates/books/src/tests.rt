@@ -82,6 +82,7 @@ fn each_broken_byte_has_its_refusal(rt: HostRuntime) {
         (44, 2, Refusal::Field),
         (45, 1, Refusal::Field),
         (47, 3, Refusal::Field),
+        (48, 1, Refusal::Field),
         (49, 1, Refusal::Field),
         (50, 60, Refusal::Field),
         (54, 60, Refusal::Field),
@@ -106,6 +107,8 @@ fn of_two_faults_the_leftmost_rule_decides(rt: HostRuntime) {
         (36, 1, 44, 2, Refusal::Length),
         (44, 2, 138, 0, Refusal::Field),
         (138, 0, 6, 1, Refusal::Length),
+        (6, 17, 27, 0, Refusal::Field),
+        (44, 2, 6, 1, Refusal::Field),
     ];
     for (at, value, other, also, expected) in cases {
         let mut file = WORKED;
@@ -120,6 +123,12 @@ fn too_few_or_too_many_bytes_are_a_length(rt: HostRuntime) -> Result<(), Fail> {
     for n in 0..245usize {
         assert_eq!(rt; refusal(&WORKED[0..n]), Some(Refusal::Length));
     }
+    let mut unmarked = WORKED;
+    put(&mut unmarked, 0, 0);
+    assert_eq!(rt; refusal(&unmarked[0..26]), Some(Refusal::Length));
+    put(&mut unmarked, 0, 0x43);
+    put(&mut unmarked, 27, 0);
+    assert_eq!(rt; refusal(&unmarked[0..37]), Some(Refusal::Length));
     let mut longer = WORKED.to_vec(rt.alloc())?;
     longer.push(0)?;
     assert_eq!(rt; refusal(longer.as_slice()), Some(Refusal::Length));

@@ -27,6 +27,21 @@ fn lower_bounds_list_fewer_routes(rt: HostRuntime) -> Result<(), Fail> {
 }
 
 #[test]
+fn the_selection_says_which_weights_count(rt: HostRuntime) -> Result<(), Fail> {
+    let mut file = SAMPLE;
+    file[5] = 1;
+    let delays = listing(rt.alloc(), &file)?;
+    assert_eq!(rt; delays.as_str(), "routes 1\n1: 5 key 3\n");
+    file[5] = 3;
+    let all = listing(rt.alloc(), &file)?;
+    assert_eq!(rt;
+        all.as_str(),
+        "routes 2\n1: 5 6 1000 0 key 5\n2: 6 3 1000 0 key 6\n"
+    );
+    Ok(())
+}
+
+#[test]
 fn a_file_that_is_refused_gives_one_line(rt: HostRuntime) -> Result<(), Fail> {
     let short = listing(rt.alloc(), b"CHN")?;
     assert_eq!(rt; short.as_str(), "refused 12\n");

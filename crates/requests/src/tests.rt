@@ -126,6 +126,18 @@ fn a_finished_request_is_only_asked(rt: HostRuntime) {
         request.finish(&without_links(3, 0), 2, &mut memory),
         Err(Refusal::Stage)
     );
+    assert_eq!(rt;
+        opened(&mut request, 1_000_000_000, &mut memory),
+        Err(Refusal::Stage)
+    );
+    assert_eq!(rt;
+        request.cross(&without_links(0, 0), &mut memory),
+        Err(Refusal::Stage)
+    );
+    assert_eq!(rt;
+        request.finish(&without_links(0, 0), 3, &mut memory),
+        Err(Refusal::Stage)
+    );
     assert!(rt; request.count(2, &memory).is_ok());
 }
 
@@ -171,6 +183,14 @@ fn the_first_refusal_of_a_finish_is_answered(rt: HostRuntime) {
     );
     assert_eq!(rt;
         request.finish(&without_links(0, 0), 2, &mut memory),
+        Err(Refusal::Size)
+    );
+    assert_eq!(rt;
+        request.finish(&without_links(1025, 0), 2, &mut memory),
+        Err(Refusal::Size)
+    );
+    assert_eq!(rt;
+        request.finish(&without_links(2, 8193), 1, &mut memory),
         Err(Refusal::Size)
     );
     assert_eq!(rt;
@@ -235,6 +255,10 @@ fn a_chain_has_sixteen_carriers(rt: HostRuntime) {
     assert_eq!(rt; opened(&mut request, 8, &mut memory), Ok(()));
     crossed_on(&rt, &mut request, 15, &mut memory);
     assert_eq!(rt;
+        request.cross(&without_links(0, 0), &mut memory),
+        Err(Refusal::Size)
+    );
+    assert_eq!(rt;
         request.cross(&without_links(3, 0), &mut memory),
         Err(Refusal::Chain)
     );
@@ -245,6 +269,14 @@ fn a_chain_has_sixteen_carriers(rt: HostRuntime) {
 fn a_run_needs_room(rt: HostRuntime) {
     let mut request = Request::new();
     assert_eq!(rt; opened(&mut request, 8, &mut []), Ok(()));
+    assert_eq!(rt;
+        request.cross(&without_links(2, 0), &mut []),
+        Err(Refusal::Node)
+    );
+    assert_eq!(rt;
+        request.finish(&without_links(2, 0), 2, &mut []),
+        Err(Refusal::Node)
+    );
     assert_eq!(rt;
         request.cross(&without_links(3, 0), &mut []),
         Err(Refusal::Full)
@@ -310,6 +342,7 @@ fn an_expansion_that_is_refused_writes_nothing(rt: HostRuntime) -> Result<(), Fa
     let mut hops = [hop(9, 9); 1];
     assert_eq!(rt; request.expand(7, &short, &mut hops), Err(Refusal::Memory));
     assert_eq!(rt; request.expand(3, &memory, &mut hops), Err(Refusal::Key));
+    assert_eq!(rt; request.expand(3, &memory, &mut []), Err(Refusal::Key));
     assert_eq!(rt;
         request.expand(key, &memory, &mut hops),
         Err(Refusal::Short)
