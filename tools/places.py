@@ -52,6 +52,14 @@ def block(text, at):
     return text[start + 1 :], len(text)
 
 
+def matches(pattern):
+    """Each match in the code: its place, the match, and the text of its file."""
+    for path in CODE:
+        text = without_comments(read(path))
+        for m in re.finditer(pattern, text):
+            yield f"{name(path)}:{line_of(text, m.start())}", m, text
+
+
 def enums(files):
     for path in files:
         text = without_comments(read(path))
@@ -166,10 +174,8 @@ def point_2():
                 near.append(f"{name(p)}:{n} {f}, {name(q)}:{m} {g}")
     show("pairs of functions that are nearly alike", near)
     types = {}
-    for path in CODE:
-        text = without_comments(read(path))
-        for m in re.finditer(r"\b(?:struct|type|const|enum) (\w+)", text):
-            types.setdefault(m.group(1), []).append(f"{name(path)}:{line_of(text, m.start())}")
+    for place, m, _ in matches(r"\b(?:struct|type|const|enum) (\w+)"):
+        types.setdefault(m.group(1), []).append(place)
     show("types, aliases and constants whose name stands more than once", [f"{t}: {', '.join(ps)}" for t, ps in types.items() if len(ps) > 1])
     free = {}
     for path in CODE:
@@ -183,12 +189,9 @@ def point_3():
     show("while and loop", lines(CODE, r"\b(while\b.*\{|loop \{)"))
     show("counters moved by one", lines(CODE, r"[+-]= 1;"))
     asks = []
-    for path in CODE:
-        text = without_comments(read(path))
-        for m in re.finditer(r"\bfor [^\n]* in [^\n]*\{", text):
-            body, _ = block(text, m.end() - 1)
-            if re.search(r"return (true|false);", body):
-                asks.append(f"{name(path)}:{line_of(text, m.start())}: {m.group()}")
+    for place, m, text in matches(r"\bfor [^\n]* in [^\n]*\{"):
+        if re.search(r"return (true|false);", block(text, m.end() - 1)[0]):
+            asks.append(f"{place}: {m.group()}")
     show("loops that only answer whether some or all are so", asks)
 
 
@@ -210,7 +213,7 @@ def point_5():
     facts = {}
     for path, n, f, parameters, clauses, body in functions(CODE):
         for kind, text in clauses:
-            for fact in set(split_product(re.sub(r"\s+", " ", text))):
+            for fact in sorted(set(split_product(re.sub(r"\s+", " ", text)))):
                 plain = re.sub(r"\.(now|old)\b", "", fact)
                 facts.setdefault(plain, []).append(f"{f}")
     show("facts in the contracts of three or more functions", [f"{fact}   [{', '.join(fs)}]" for fact, fs in facts.items() if len(fs) >= 3 and kind])
@@ -224,12 +227,10 @@ def point_5():
 
 def point_6():
     found = []
-    for path in CODE:
-        text = without_comments(read(path))
-        for m in re.finditer(r"\bstruct (\w+)[^;{]*\{", text):
-            body, _ = block(text, m.end() - 1)
-            if re.search(r": \[", body):
-                found.append(f"{name(path)}:{line_of(text, m.start())}: struct {m.group(1)}: " + re.sub(r"\s+", " ", body.strip()))
+    for place, m, text in matches(r"\bstruct (\w+)[^;{]*\{"):
+        body, _ = block(text, m.end() - 1)
+        if re.search(r": \[", body):
+            found.append(f"{place}: struct {m.group(1)}: " + re.sub(r"\s+", " ", body.strip()))
     show("structs with an array", found)
     show("constant arrays", lines(CODE, r"\bconst \w+: \["))
     show("local arrays of a fixed length", lines(CODE, r"let mut \w+ = \[.*; \w+\];|let mut \w+ = \[\w+ \{"))
