@@ -75,6 +75,9 @@ impl<'a> Chain<'a> {
     pub fn book(&self, position: usize) -> Option<Book<'a>>
         ensures { option_map bytes_of result ≡ slice_get (contents_of self.now).books position }
     {
+        if position >= self.carrier_count() {
+            return None;
+        }
         self.books().nth(position)
     }
 }

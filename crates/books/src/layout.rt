@@ -171,7 +171,7 @@ impl<'a> Book<'a> {
     pub fn is_entry(&self, node: u16) -> bool
         ensures { result ≡ is_entry self.now.bytes.now node }
     {
-        (0..self.entry_count()).any(|i| entry_at(self.bytes, i) == node)
+        node < self.node_count() && (0..self.entry_count()).any(|i| entry_at(self.bytes, i) == node)
     }
 
     pub fn link(&self, place: usize) -> Option<Link>

@@ -36,7 +36,8 @@ impl<W: Kind, M: Map<W>> Crossing<'_, W, M> {
         match self.scope.before {
             Before::Run(_) => Some(0),
             Before::Destination(node) => {
-                *free.first_mut()? = Label::arrival(node, self.is_marked(node));
+                let first = free.first_mut()?;
+                *first = Label::arrival(node, self.is_marked(node));
                 Some(1)
             }
         }

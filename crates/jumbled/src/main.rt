@@ -23,7 +23,7 @@ fn main(rt: HostRuntime) -> io::Result<()> {
     }
 }
 
-fn jumbled(rt: &(impl Print + AllocGlobal), chain: &Chain) -> io::Result<()> {
+fn jumbled(rt: &impl Print, chain: &Chain) -> io::Result<()> {
     match Books::of(chain) {
         Some(books) => session::calls(rt, books),
         None => println!(rt; "the chain has only one carrier"),

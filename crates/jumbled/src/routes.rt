@@ -4,28 +4,36 @@ use crate::maps::AnyMap;
 use carriers::{Map, Side};
 use costs::{Amounts, Cost, cost};
 use histories::Hop;
-use std::alloc::{AllocError, Global};
 use std::fmt;
 use weights::Kind;
 
-// The maps accepted since the request was opened, the destination's first.
-#[derive(Drop)]
+// The maps accepted since the request was opened, the destination's first, and then no map: a chain has at most 16.
+#[derive(Clone, Copy)]
 pub(crate) struct Passed<'a> {
     destination: u16,
-    maps: Vec<AnyMap<'a>>,
+    maps: [Option<AnyMap<'a>>; 16],
 }
 
 impl<'a> Passed<'a> {
-    pub(crate) fn new(alloc: Global, destination: u16) -> Passed<'a> {
+    pub(crate) fn new(destination: u16) -> Passed<'a> {
         Passed {
             destination,
-            maps: Vec::new(alloc),
+            maps: [None; 16],
         }
     }
 
-    pub(crate) fn push(&mut self, map: AnyMap<'a>) -> Result<(), AllocError> {
-        self.maps.push(map)?;
-        Ok(())
+    pub(crate) fn push(&mut self, map: AnyMap<'a>) {
+        if let Some(room) = self.maps.iter_mut().find(|room| room.is_none()) {
+            *room = Some(map);
+        }
+    }
+
+    fn get(&self, position: usize) -> Option<AnyMap<'a>> {
+        self.maps.get(position).copied().flatten()
+    }
+
+    fn count(&self) -> usize {
+        self.maps.iter().filter(|map| map.is_some()).count()
     }
 
     // The weight of the route with these hops from the node of the latest carrier; none where they do not connect.
@@ -39,7 +47,7 @@ impl<'a> Passed<'a> {
             .iter()
             .rev()
             .try_fold(start, |walk, hop| walk.back(self, *hop))?;
-        let whole = walk.node == node && self.maps.len().checked_sub(1) == Some(walk.position);
+        let whole = walk.node == node && self.count().checked_sub(1) == Some(walk.position);
         whole.then_some(walk.weight)
     }
 }
@@ -55,14 +63,14 @@ struct Walk {
 impl Walk {
     // One hop further back; none where the hop does not lead to the walk's node, or leads onward to no entry.
     fn back(self, passed: &Passed, hop: Hop) -> Option<Walk> {
-        let map = passed.maps.get(hop.position)?;
+        let map = passed.get(hop.position)?;
         let place = usize::from(hop.link);
         let (tail, side, head) = map.link(place)?;
         let position = match side {
             Side::Inside => hop.position,
             Side::Onward => {
                 let onto = hop.position.checked_sub(1)?;
-                if !passed.maps.get(onto)?.is_entry(head) {
+                if !passed.get(onto)?.is_entry(head) {
                     return None;
                 }
                 onto

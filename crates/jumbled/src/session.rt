@@ -18,10 +18,20 @@ const SEED: u32 = 22_698;
 
 const CALLS: usize = 150;
 
-// The calls one by one, and then their tally.
-pub(crate) fn calls(rt: &(impl Print + AllocGlobal), books: Books) -> io::Result<()> {
+// The most labels that a memory has, and so the most hops that a key has.
+const LABELS: usize = 24;
+
+// The calls one by one, and then their tally. Arrays and counts, and no heap: once the calls are being printed, nothing
+// but the printing can fail.
+pub(crate) fn calls(rt: &impl Print, books: Books) -> io::Result<()> {
     println!(rt; "jumbled calls on one request")?;
-    let mut session = Session::new(rt, books)?;
+    let mut large = [Label::blank(); LABELS];
+    let mut small = [Label::blank(); 15];
+    let memories = Memories {
+        own: &mut large,
+        other: &mut small,
+    };
+    let mut session = Session::new(rt, books, memories);
     for number in 1..=CALLS {
         session.turn(number)?;
     }
@@ -30,24 +40,20 @@ pub(crate) fn calls(rt: &(impl Print + AllocGlobal), books: Books) -> io::Result
 
 // Two memories: the one that the request was opened with, and another.
 #[derive(Drop)]
-struct Memories {
-    own: Vec<Label<Cost>>,
-    other: Vec<Label<Cost>>,
+struct Memories<'m> {
+    own: &'m mut [Label<Cost>],
+    other: &'m mut [Label<Cost>],
 }
 
-impl Memories {
+impl Memories<'_> {
     // The memory that a call is handed.
     // It is a function, since a choice between two `&mut` in the caller is not covered by the borrow checker.
     fn handed(&mut self, other: bool) -> &mut [Label<Cost>] {
-        if other {
-            self.other.as_mut_slice()
-        } else {
-            self.own.as_mut_slice()
-        }
+        if other { self.other } else { self.own }
     }
 
     fn own(&self) -> &[Label<Cost>] {
-        self.own.as_slice()
+        self.own
     }
 
     // Makes the other memory the request's own.
@@ -62,26 +68,23 @@ struct Session<'a, R> {
     rt: &'a R,
     dice: Dice<'a>,
     request: Request<Cost>,
-    memories: Memories,
+    memories: Memories<'a>,
     standing: Standing,
     passed: Passed<'a>,
     tally: Tally,
 }
 
-impl<'a, R: Print + AllocGlobal> Session<'a, R> {
-    fn new(rt: &'a R, books: Books<'a>) -> io::Result<Session<'a, R>> {
-        Ok(Session {
+impl<'a, R: Print> Session<'a, R> {
+    fn new(rt: &'a R, books: Books<'a>, memories: Memories<'a>) -> Session<'a, R> {
+        Session {
             rt,
             dice: Dice::new(SEED, books),
             request: Request::new(),
-            memories: Memories {
-                own: vec![in rt.alloc(); Label::blank(); 24]?,
-                other: vec![in rt.alloc(); Label::blank(); 15]?,
-            },
+            memories,
             standing: Standing::Idle,
-            passed: Passed::new(rt.alloc(), 0),
-            tally: Tally::new(rt.alloc()),
-        })
+            passed: Passed::new(0),
+            tally: Tally::new(),
+        }
     }
 
     // Draws a call, makes it, and prints it with its answer, and the lists where labels were settled.
@@ -92,35 +95,34 @@ impl<'a, R: Print + AllocGlobal> Session<'a, R> {
         print!(self.rt; "call {number} in {} labels: {call}: ", memory.len())?;
         let answer = call.make(&mut self.request, memory);
         println!(self.rt; "{}", Told(answer))?;
-        self.tally.answer(answer)?;
+        self.tally.answer(answer);
         if answer.is_ok() {
-            self.keep(call, in_other)?;
+            self.keep(call, in_other);
             self.lists(call)?;
         }
         Ok(())
     }
 
     // Keeps account of a call that was accepted.
-    fn keep(&mut self, call: Call<'a>, in_other: bool) -> io::Result<()> {
+    fn keep(&mut self, call: Call<'a>, in_other: bool) {
         match call {
             Call::Open { destination, .. } => {
                 if in_other {
                     self.memories.exchange();
                 }
-                self.passed = Passed::new(self.rt.alloc(), destination);
+                self.passed = Passed::new(destination);
                 self.standing = Standing::Opened;
             }
             Call::Cross(map) => {
-                self.passed.push(map)?;
+                self.passed.push(map);
                 self.standing = Standing::Crossed;
             }
             Call::Finish { map, .. } => {
-                self.passed.push(map)?;
+                self.passed.push(map);
                 self.standing = Standing::Finished;
             }
             Call::Withdraw => self.standing = Standing::Idle,
         }
-        Ok(())
     }
 
     // The lists at every entry after a cross, and at the source after a finish.
@@ -166,14 +168,14 @@ impl<'a, R: Print + AllocGlobal> Session<'a, R> {
             position: 0,
             link: 0,
         };
-        let mut hops = vec![in self.rt.alloc(); hop; memory.len()]?;
-        match self.request.expand(item.key, memory, hops.as_mut_slice()) {
+        // An array, which takes no heap.
+        let mut room = [hop; LABELS];
+        match self.request.expand(item.key, memory, &mut room) {
             Ok(count) => {
-                hops.truncate(count);
-                let sum = self.passed.sum(node, hops.as_slice());
-                let verdict = Verdict::new(sum, item.weight);
-                self.tally.expand(verdict)?;
-                println!(self.rt; "      {}: {verdict}", Hops(hops.as_slice()))
+                let hops = room.get(..count).unwrap_or(&[]);
+                let verdict = Verdict::new(self.passed.sum(node, hops), item.weight);
+                self.tally.expand(verdict);
+                println!(self.rt; "      {}: {verdict}", Hops(hops))
             }
             Err(refusal) => println!(self.rt; "      expand: refused {refusal}"),
         }

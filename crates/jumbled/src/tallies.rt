@@ -3,7 +3,6 @@
 use crate::calls::Answer;
 use crate::routes::Verdict;
 use carriers::Refusal;
-use std::alloc::{AllocError, Global};
 use std::io;
 
 // The refusals that open, cross, finish and withdraw answer.
@@ -17,76 +16,78 @@ const ANSWERED: [Refusal; 7] = [
     Refusal::Full,
 ];
 
-// What each call answered, and the verdict on each key that was expanded.
+// How often each came: `refused` has a count for each of the refusals above. Counts, since lists of the answers would
+// take heap; saturating, since nothing bounds how often a tally counts.
 #[derive(Drop)]
 pub(crate) struct Tally {
-    answers: Vec<Result<Answer, Refusal>>,
+    calls: usize,
+    accepted: usize,
+    refused: [usize; 7],
     lists: usize,
-    verdicts: Vec<Verdict>,
+    expanded: usize,
+    differing: usize,
+    disconnected: usize,
 }
 
 impl Tally {
-    pub(crate) fn new(alloc: Global) -> Tally {
+    pub(crate) fn new() -> Tally {
         Tally {
-            answers: Vec::new(alloc),
+            calls: 0,
+            accepted: 0,
+            refused: [0; 7],
             lists: 0,
-            verdicts: Vec::new(alloc),
+            expanded: 0,
+            differing: 0,
+            disconnected: 0,
         }
     }
 
-    pub(crate) fn answer(&mut self, answer: Result<Answer, Refusal>) -> Result<(), AllocError> {
-        self.answers.push(answer)?;
-        Ok(())
+    pub(crate) fn answer(&mut self, answer: Result<Answer, Refusal>) {
+        self.calls = self.calls.saturating_add(1);
+        match answer {
+            Ok(_) => self.accepted = self.accepted.saturating_add(1),
+            Err(refusal) => self.refuse(refusal),
+        }
     }
 
-    // Saturating, since nothing bounds how many lists a tally counts.
+    fn refuse(&mut self, refusal: Refusal) {
+        for (count, answered) in self.refused.iter_mut().zip(ANSWERED) {
+            if answered == refusal {
+                *count = count.saturating_add(1);
+            }
+        }
+    }
+
     pub(crate) fn list(&mut self) {
         self.lists = self.lists.saturating_add(1);
     }
 
-    pub(crate) fn expand(&mut self, verdict: Verdict) -> Result<(), AllocError> {
-        self.verdicts.push(verdict)?;
-        Ok(())
+    pub(crate) fn expand(&mut self, verdict: Verdict) {
+        self.expanded = self.expanded.saturating_add(1);
+        match verdict {
+            Verdict::AsListed(_) => {}
+            Verdict::NotAsListed { .. } => self.differing = self.differing.saturating_add(1),
+            Verdict::NotConnected => self.disconnected = self.disconnected.saturating_add(1),
+        }
     }
 
     pub(crate) fn print(&self, rt: &impl Print) -> io::Result<()> {
         self.print_answers(rt)?;
-        println!(rt;
-            "{} lists, {} keys expanded",
-            self.lists,
-            self.verdicts.len()
-        )?;
-        let differing = self
-            .verdicts
-            .iter()
-            .filter(|verdict| matches!(verdict, Verdict::NotAsListed { .. }))
-            .count();
-        println!(rt; "sums that differ: {differing}")?;
-        let disconnected = self
-            .verdicts
-            .iter()
-            .filter(|verdict| matches!(verdict, Verdict::NotConnected))
-            .count();
-        println!(rt; "routes that do not connect: {disconnected}")
+        println!(rt; "{} lists, {} keys expanded", self.lists, self.expanded)?;
+        println!(rt; "sums that differ: {}", self.differing)?;
+        println!(rt; "routes that do not connect: {}", self.disconnected)
     }
 
     fn print_answers(&self, rt: &impl Print) -> io::Result<()> {
-        let accepted = self.answers.iter().filter(|answer| answer.is_ok()).count();
-        let refused = self.answers.iter().filter(|answer| answer.is_err()).count();
         println!(rt;
-            "{} calls: {accepted} accepted, {refused} refused",
-            self.answers.len()
+            "{} calls: {} accepted, {} refused",
+            self.calls,
+            self.accepted,
+            self.calls.saturating_sub(self.accepted)
         )?;
-        for refusal in ANSWERED {
-            println!(rt; "  refused {refusal}: {}", self.refused_for(refusal))?;
+        for (count, refusal) in self.refused.iter().zip(ANSWERED) {
+            println!(rt; "  refused {refusal}: {count}")?;
         }
         Ok(())
-    }
-
-    fn refused_for(&self, refusal: Refusal) -> usize {
-        self.answers
-            .iter()
-            .filter(|answer| answer.err() == Some(refusal))
-            .count()
     }
 }

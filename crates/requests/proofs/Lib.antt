@@ -4,6 +4,7 @@ pub mod Settled
 pub mod Moving
 pub mod Allowed
 pub mod Asking
+pub mod Items
 pub mod Listing
 pub mod Hops
 pub mod Promises

@@ -1,6 +1,11 @@
 // The list at a node: the marked labels of the latest run there, in order.
 
 ghost use Rattle.std.specs.Prelude.{◌≡◌, ◌==◌, ◌&&◌, ◌+◌, ◌^◌, ◌<◌, length};
+ghost use Rattle.std.specs.Option.{option_map};
+ghost use Rattle.std.specs.List.{slice_get};
+ghost use Rattle.stepping.specs.Labels.{meanings};
+ghost use Rattle.histories.specs.Lists.{items};
+ghost use Rattle.requests.specs.Listed.{item_meant};
 
 use crate::stages::Progress;
 use histories::Item;
@@ -18,13 +23,29 @@ fn is_listed<W: Kind>(label: &Label<W>, node: u16) -> bool
     label.node == node && label.mark
 }
 
-impl<'a, W: Kind> RunLabels<'a, W> {
-    ghost use Rattle.std.specs.Option.{option_map};
-    ghost use Rattle.std.specs.List.{slice_get};
-    ghost use Rattle.stepping.specs.Labels.{meanings};
-    ghost use Rattle.histories.specs.Lists.{items};
-    ghost use Rattle.requests.specs.Listed.{item_meant};
+// The k-th of the labels that are listed at the node; the first label has the key `first_key`. A loop by hand: `filter`
+// and `nth` over labels with their keys took twice the time.
+fn item_at<W: Kind>(labels: &[Label<W>], first_key: usize, node: u16, k: usize) -> Option<Item<W>>
+    requires { first_key + length labels.now < 2 ^ 64 }
+    ensures { option_map (item_meant W.Kind.means) result ≡ slice_get (items node first_key (meanings W.Kind.means labels.now)) k }
+{
+    let mut left = k;
+    for i in 0..labels.len() {
+        let label = labels[i];
+        if label.node == node && label.mark {
+            if left == 0 {
+                return Some(Item {
+                    weight: label.weight,
+                    key: first_key + i,
+                });
+            }
+            left -= 1;
+        }
+    }
+    None
+}
 
+impl<'a, W: Kind> RunLabels<'a, W> {
     // How many of the labels are listed at the node.
     pub(crate) fn count(&self, node: u16) -> usize
         ensures { result ≡ length (items node self.now.0.first_key (meanings W.Kind.means self.now.0.labels.now)) }
@@ -40,22 +61,13 @@ impl<'a, W: Kind> RunLabels<'a, W> {
     pub(crate) fn item(&self, node: u16, k: usize) -> Option<Item<W>>
         ensures { option_map (item_meant W.Kind.means) result ≡ slice_get (items node self.now.0.first_key (meanings W.Kind.means self.now.0.labels.now)) k }
     {
-        let end = self.0.first_key + self.0.labels.len();
-        (self.0.first_key..end)
-            .zip(self.0.labels)
-            .filter(|(_, label)| is_listed(label, node))
-            .nth(k)
-            .map(|(key, label)| Item {
-                weight: label.weight,
-                key,
-            })
+        item_at(self.0.labels, self.0.first_key, node, k)
     }
 }
 
 impl<W: Kind> Progress<W> {
     ghost use Rattle.std.specs.Prelude.{ℕ};
-    ghost use Rattle.stepping.specs.Labels.{meanings};
-    ghost use Rattle.histories.specs.Lists.{items, listed};
+    ghost use Rattle.histories.specs.Lists.{listed};
     ghost use Rattle.requests.specs.Kept.{progress_of};
 
     // The labels of the latest run.

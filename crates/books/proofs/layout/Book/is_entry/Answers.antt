@@ -8,8 +8,8 @@ use Rattle.books.proofs.Own.{whole_sound}
 use Rattle.books.proofs.Shown.{listed}
 use Rattle.books.proofs.layout.Book.is_entry.Goals as goal
 
-pub returns : goal.returns
-returns c =
+pub returns-then-node-node_count : goal.returns-then-node-node_count
+returns-then-node-node_count c =
     let book = c.args.self.now in
     let b = book.bytes.now in
     let found : c.any.result ≡ lists_entry b c.args.node =
