@@ -32,7 +32,7 @@ fn item_at<W: Kind>(labels: &[Label<W>], first_key: usize, node: u16, k: usize) 
     let mut left = k;
     for i in 0..labels.len() {
         let label = labels[i];
-        if label.node == node && label.mark {
+        if is_listed(&label, node) {
             if left == 0 {
                 return Some(Item {
                     weight: label.weight,

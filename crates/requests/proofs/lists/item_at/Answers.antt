@@ -1,10 +1,11 @@
-use Rattle.std.proofs.Common.{◌≡◌, suc, ◌+◌, map, drop, sym, ap, ◌∙◌, arith}
+use Rattle.std.proofs.Common.{◌≡◌, suc, ◌+◌, true, false, map, drop, sym, ap, ◌∙◌, arith}
 use Rattle.std.specs.List.{slice_get}
+use Rattle.std.proofs.lemmas.List.{drop_all}
 use Rattle.stepping.specs.Labels.{meant}
 use Rattle.histories.specs.Lists.{items}
-use Rattle.requests.proofs.Items.{listed_here, unmarked_here, elsewhere, none_left, nth_after}
+use Rattle.requests.proofs.Items.{items_more, nth_after}
 use Rattle.requests.proofs.lists.item_at.Goals as goal
-use Rattle.requests.proofs.lists.item_at.Goals.{then-label-node+then-label+else-left-eq0, else-label-node, else-label-node-via-then-label-node+else-label, else-label-node-via-else-label-node}
+use Rattle.requests.proofs.lists.item_at.Goals.{then-is_listed+else-left-eq0, else-is_listed}
 
 pub returns-then-left-eq0 : goal.returns-then-left-eq0
 returns-then-left-eq0 g c =
@@ -13,12 +14,13 @@ returns-then-left-eq0 g c =
     let v = c.args.node in
     let i = c.loop-i.i in
     let k = c.args.first_key + i in
+    let j = c.args.first_key + (i + 1) in
     let x = c.index-labels-i in
-    let next : suc k ≡ c.args.first_key + (i + 1) = omega arith in
+    let next : suc k ≡ j = omega arith in
     sym
     (c.loop-i.invariant
     ∙ ap (λ n. slice_get (items v k (map (meant f) (drop i ys))) n) c.if-left-eq0.true
-    ∙ ap (λ r. slice_get r 0) (listed_here f ys v i k (c.args.first_key + (i + 1)) next x.result c.loop-i-test.true x.is c.if-label-node.true c.if-label.true))
+    ∙ ap (λ r. slice_get r 0) (items_more f ys v i k j next x.result c.loop-i-test.true x.is true (sym c.is_listed.ensures ∙ c.if-is_listed.true)))
 
 pub loop-i-preserved : goal.loop-i-preserved
 loop-i-preserved g c =
@@ -30,22 +32,18 @@ loop-i-preserved g c =
     let j = c.args.first_key + (i + 1) in
     let n = c.loop-i.left in
     let x = c.index-labels-i in
-    let l = c.loop-i-test.true in
     let next : suc k ≡ j = omega arith in
     let rest = items v j (map (meant f) (drop (i + 1) ys)) in
-    elim c.if-label-node.branch [
-      | then-label-node+then-label+else-left-eq0 w ↦
+    let more = items_more f ys v i k j next x.result c.loop-i-test.true x.is in
+    elim c.if-is_listed.branch [
+      | then-is_listed+else-left-eq0 w ↦
           c.loop-i.invariant
-          ∙ ap (λ r. slice_get r n) (listed_here f ys v i k j next x.result l x.is w.if-label-node.true w.if-label.true)
+          ∙ ap (λ r. slice_get r n) (more true (sym c.is_listed.ensures ∙ w.if-is_listed.true))
           ∙ nth_after (record { weight = f x.result.weight; key = k }) rest n w.if-left-eq0.false
           ∙ ap (slice_get rest) (sym w.left-is)
-      | else-label-node w ↦
+      | else-is_listed w ↦
           c.loop-i.invariant
-          ∙ ap (λ r. slice_get r n)
-          (elim w.else-label-node.branch [
-            | else-label-node-via-then-label-node+else-label y ↦ unmarked_here f ys v i k j next x.result l x.is y.if-label-node.true y.if-label.false
-            | else-label-node-via-else-label-node y ↦ elsewhere f ys v i k j next x.result l x.is y.if-label-node.false
-          ])
+          ∙ ap (λ r. slice_get r n) (more false (sym c.is_listed.ensures ∙ w.if-is_listed.false))
           ∙ ap (slice_get rest) (sym w.left-is)
     ]
 
@@ -53,6 +51,7 @@ pub returns : goal.returns
 returns g c =
     let f = g.W.Kind.means in
     let ys = c.args.labels.now in
+    let i = c.loop-i.i in
     sym
     (c.loop-i.invariant
-    ∙ ap (λ r. slice_get r c.loop-i.left) (none_left f ys c.args.node c.loop-i.i (c.args.first_key + c.loop-i.i) c.loop-i-test.false))
+    ∙ ap (λ r. slice_get (items c.args.node (c.args.first_key + i) (map (meant f) r)) c.loop-i.left) (drop_all i ys c.loop-i-test.false))
